@@ -1,1 +1,2 @@
 mod Climb
+mod States
