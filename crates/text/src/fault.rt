@@ -104,7 +104,7 @@ impl TableFault {
 pub impl From<LineFault> for TableFault as TableFromLine {
     ghost converts = { λ f t. t ≡ in-line f };
 
-    fn from(fault: LineFault) -> TableFault {
-        TableFault::Line(fault)
+    fn from(lower: LineFault) -> TableFault {
+        TableFault::Line(lower)
     }
 }
