@@ -1,1 +1,3 @@
 pub mod Derivatives
+pub mod Members
+pub mod Simulation
