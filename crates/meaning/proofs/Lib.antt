@@ -1,3 +1,4 @@
 pub mod Derivatives
 pub mod Members
 pub mod Simulation
+pub mod Names
