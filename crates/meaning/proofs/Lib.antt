@@ -1,0 +1,6 @@
+pub mod Derivatives
+pub mod Members
+pub mod Simulation
+pub mod Names
+pub mod Sets
+pub mod Tables
