@@ -2,3 +2,5 @@ pub mod Bits
 pub mod Lists
 pub mod Sides
 pub mod Subsets
+pub mod Truth
+pub mod Marking

@@ -1,2 +1,4 @@
 pub mod Lists
 pub mod Fits
+pub mod Tables
+pub mod Marks
