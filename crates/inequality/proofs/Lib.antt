@@ -4,3 +4,4 @@ pub mod Sides
 pub mod Subsets
 pub mod Truth
 pub mod Marking
+pub mod Meets

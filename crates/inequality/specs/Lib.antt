@@ -2,3 +2,4 @@ pub mod Lists
 pub mod Fits
 pub mod Tables
 pub mod Marks
+pub mod Reached
