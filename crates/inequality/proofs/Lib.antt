@@ -5,3 +5,4 @@ pub mod Subsets
 pub mod Truth
 pub mod Marking
 pub mod Meets
+pub mod Verdict

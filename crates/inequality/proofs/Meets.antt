@@ -265,3 +265,11 @@ stops m limit root pos =
     refuse e (inl over) = numbered-most m root (length (meet m limit root .rows)) limit
         (meet-number m limit root pos e) (meet-begun m limit root pos .3) over
     refuse e (inr w) = false≢true (sym (meet-all m limit root pos e .1 (w .0) (w .1)) ∙ w .2)
+
+-- a meeting that a wide row ended met a wide one, and one that ran out of rows met too many
+pub meet-wide : (m : Machine) (limit : ℕ) (root : Row) → 1 ≤ limit → meet m limit root .end ≡ wide-row → Some-wide m root
+meet-wide m limit root pos = meet-result m limit root pos .2
+
+pub meet-out : (m : Machine) (limit : ℕ) (root : Row) → 1 ≤ limit → meet m limit root .end ≡ out-of-rows →
+    Outnumber m root limit
+meet-out m limit root pos = meet-result m limit root pos .3

@@ -3,3 +3,4 @@ pub mod Fits
 pub mod Tables
 pub mod Marks
 pub mod Reached
+pub mod Verdicts
