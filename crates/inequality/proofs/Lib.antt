@@ -6,3 +6,4 @@ pub mod Truth
 pub mod Marking
 pub mod Meets
 pub mod Verdict
+mod Worked

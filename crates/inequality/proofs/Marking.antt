@@ -19,12 +19,14 @@ use Rattle.inequality.proofs.Lists.{Tells, any-found, any-from, member-at, pla
 
 -- the test on rows tells equal rows
 pub tells-row : Tells same-row
-tells-row = record
-  { equal = λ a b e. let p = and-parts (eqb (a .left) (b .left)) _ e in
-      (λ i. record { left = eqb-true (a .left) (b .left) (p .0) i
-                   ; right = record { bits = eqb-true (a .right .bits) (b .right .bits) (p .1) i } })
-  ; itself = λ a. and-from _ _ (eq-eqb (a .left) (a .left) refl) (eq-eqb (a .right .bits) (a .right .bits) refl)
-  }
+tells-row = record {
+  equal = λ a b e. let p = and-parts (eqb (a .left) (b .left)) _ e in
+      (λ i. record {
+        left = eqb-true (a .left) (b .left) (p .0) i;
+        right = record { bits = eqb-true (a .right .bits) (b .right .bits) (p .1) i };
+      });
+  itself = λ a. and-from _ _ (eq-eqb (a .left) (a .left) refl) (eq-eqb (a .right .bits) (a .right .bits) refl);
+}
 
 -- a row is marked exactly when a place that holds it has its mark set
 pub marked-found : (rows : List Row) (ms : List Bool) (r : Row) → marked rows ms r ≡ true →
@@ -33,9 +35,9 @@ marked-found [] ms r e = elim (false≢true e) [ ]
 marked-found (x ∷ rows) [] r e = elim (false≢true e) [ ]
 marked-found (x ∷ rows) (b ∷ ms) r e = ⊎-elim
     (λ (now′ : (same-row r x && b) ≡ true). let p = and-parts (same-row r x) b now′ in
-      (0, omega arith, sym (tells-row .equal r x (p .0)), p .1))
+    (0, omega arith, sym (tells-row .equal r x (p .0)), p .1))
     (λ (later : marked rows ms r ≡ true). let at = marked-found rows ms r later in
-      (suc (at .0), omega (arith, at .1), at .2, at .3))
+    (suc (at .0), omega (arith, at .1), at .2, at .3))
     (or-cases (same-row r x && b) (marked rows ms r) e)
 
 pub marked-from : (rows : List Row) (ms : List Bool) (r : Row) (i : ℕ) → i < length rows →
@@ -85,6 +87,7 @@ grows m passes (r ∷ rows) (b ∷ ms) e = go b (any passes (either-ors m r)) (g
   where
     next : List Bool
     next = sweep-by m passes rows ms
+
     go : (b x : Bool) → (next ≡ ms) ⊎ (count ms < count next) →
         (_≡_ {A = List Bool} ((b || x) ∷ next) (b ∷ ms)) ⊎ (count (b ∷ ms) < count ((b || x) ∷ next))
     go true x (inl same) = inl (ap (λ l. true ∷ l) same)
@@ -106,9 +109,9 @@ module _ (m : Machine) (rows : List Row) where
   settles (suc n) ms e = ⊎-elim
       (λ (still : sweep m rows (sweeps m rows n ms) ≡ sweeps m rows n ms). inl (ap (sweep m rows) still))
       (λ (many : n ≤ count (sweeps m rows n ms)). ⊎-elim
-        (λ (still : sweep m rows (sweeps m rows n ms) ≡ sweeps m rows n ms). inl (ap (sweep m rows) still))
-        (λ (more : count (sweeps m rows n ms) < count (sweep m rows (sweeps m rows n ms))). inr (omega arith))
-        (grows m _ rows (sweeps m rows n ms) (sweeps-length n ms e)))
+      (λ (still : sweep m rows (sweeps m rows n ms) ≡ sweeps m rows n ms). inl (ap (sweep m rows) still))
+      (λ (more : count (sweeps m rows n ms) < count (sweep m rows (sweeps m rows n ms))). inr (omega arith))
+      (grows m _ rows (sweeps m rows n ms) (sweeps-length n ms e)))
       (settles n ms e)
 
   -- as many sweeps as there are rows suffice
@@ -116,13 +119,14 @@ module _ (m : Machine) (rows : List Row) where
       sweep m rows (sweeps m rows (length rows) ms) ≡ sweeps m rows (length rows) ms
   settled ms e = ⊎-elim (λ still. still)
       (λ (many : length rows ≤ count last). ⊎-elim (λ still. still)
-        (λ (more : count last < count (sweep m rows last)).
-          absurd (omega (arith, count-most (sweep m rows last), sweep-length m (both-marked rows last) rows last long)))
-        (grows m _ rows last long))
+      (λ (more : count last < count (sweep m rows last)).
+      absurd (omega (arith, count-most (sweep m rows last), sweep-length m (both-marked rows last) rows last long)))
+      (grows m _ rows last long))
       (settles (length rows) ms e)
     where
       last : List Bool
       last = sweeps m rows (length rows) ms
+
       long : length last ≡ length rows
       long = sweeps-length (length rows) ms e
 
@@ -143,14 +147,14 @@ module _ (m : Machine) (rows : List Row) where
       let before : List Bool = sweeps m rows n ms in
       let sound′ = sweeps-sound n ms e sound in
       ⊎-elim
-        (λ (old : getD before i false ≡ true). sound′ i lt old)
-        (λ (new : any (both-marked rows before) (either-ors m (getD rows i blank-row)) ≡ true).
-          let at = any-found (both-marked rows before) (either-ors m (getD rows i blank-row)) new in
-          let both = and-parts (marked rows before (at .0 .content)) _ (at .2) in
-          by-either-or (at .1)
-            (marked-refuted before sound′ (at .0 .content) (both .0))
-            (marked-refuted before sound′ (at .0 .rest) (both .1)))
-        (or-cases (getD before i false) _ (sym (sweep-at m (both-marked rows before) rows before i (sweeps-length n ms e) lt) ∙ set))
+      (λ (old : getD before i false ≡ true). sound′ i lt old)
+      (λ (new : any (both-marked rows before) (either-ors m (getD rows i blank-row)) ≡ true).
+      let at = any-found (both-marked rows before) (either-ors m (getD rows i blank-row)) new in
+      let both = and-parts (marked rows before (at .0 .content)) _ (at .2) in
+      by-either-or (at .1)
+      (marked-refuted before sound′ (at .0 .content) (both .0))
+      (marked-refuted before sound′ (at .0 .rest) (both .1)))
+      (or-cases (getD before i false) _ (sym (sweep-at m (both-marked rows before) rows before i (sweeps-length n ms e) lt) ∙ set))
 
   -- a mark that is set stays set
   sweeps-keep : (n : ℕ) (ms : List Bool) (i : ℕ) → length ms ≡ length rows → i < length rows →
@@ -170,8 +174,8 @@ swept-complete m rows ms sided swept (by-either-or {r = r} {e = e} mem a b) i lt
     let c = place-of blank-row (both .0) in
     let d = place-of blank-row (both .1) in
     swept i lt .1 e mem′
-      (marked-from rows ms (e .content) (c .0) (c .1) (c .2) (swept-complete m rows ms sided swept a (c .0) (c .1) (c .2)))
-      (marked-from rows ms (e .rest) (d .0) (d .1) (d .2) (swept-complete m rows ms sided swept b (d .0) (d .1) (d .2)))
+    (marked-from rows ms (e .content) (c .0) (c .1) (c .2) (swept-complete m rows ms sided swept a (c .0) (c .1) (c .2)))
+    (marked-from rows ms (e .rest) (d .0) (d .1) (d .2) (swept-complete m rows ms sided swept b (d .0) (d .1) (d .2)))
 
 -- Marks that are sound and that no sweep changes are right: however they were found.
 pub swept-right : (m : Machine) (rows : List Row) (ms : List Bool) → Sided m rows → length ms ≡ length rows →
@@ -184,17 +188,21 @@ pub marks-right : (m : Machine) (rows : List Row) → Sided m rows → Right m r
 unfolding marks Sound
 marks-right m rows sided = swept-right m rows last sided (sweeps-length m rows (length rows) first long)
     (sweeps-sound m rows (length rows) first long (λ i lt e. by-empty (sym (at-first i lt) ∙ e)))
-    (λ i lt.
-      (λ e. sweeps-keep m rows (length rows) first i long lt (at-first i lt ∙ e)
-      , λ e mem c d. ap (λ ms. getD ms i false) (sym (settled m rows first long))
+    (λ i lt. (
+      λ e. sweeps-keep m rows (length rows) first i long lt (at-first i lt ∙ e),
+      λ e mem c d. ap (λ ms. getD ms i false) (sym (settled m rows first long))
           ∙ sweep-at m _ rows last i (sweeps-length m rows (length rows) first long) lt
-          ∙ or-right (getD last i false) _ (any-from (both-marked rows last) mem (and-from _ _ c d))))
+          ∙ or-right (getD last i false) _ (any-from (both-marked rows last) mem (and-from _ _ c d)),
+    ))
   where
     first : List Bool
     first = map (inconsistent m) rows
+
     last : List Bool
     last = sweeps m rows (length rows) first
+
     long : length first ≡ length rows
     long = length-map rows (inconsistent m)
+
     at-first : (i : ℕ) → i < length rows → getD first i false ≡ inconsistent m (getD rows i blank-row)
     at-first i lt = getD-map (inconsistent m) rows i blank-row false lt

@@ -43,9 +43,9 @@ unfolding sides
 side-reachable m root r x reach narrow mem =
     let at = side-of x (either-ors m r) mem in
     ⊎-elim
-      (λ e. subst (Reachable m root) (sym e) (by-content reach narrow (at .1)))
-      (λ e. subst (Reachable m root) (sym e) (by-rest reach narrow (at .1)))
-      (at .2)
+    (λ e. subst (Reachable m root) (sym e) (by-content reach narrow (at .1)))
+    (λ e. subst (Reachable m root) (sym e) (by-rest reach narrow (at .1)))
+    (at .2)
 
 -- the ends differ
 abbrev is-all : End → Type 0
@@ -93,7 +93,7 @@ module _ (m : Machine) (limit : ℕ) (root : Row) (taken : ℕ) (rows : List Row
   reachable-grown r mem = ⊎-elim
       (λ (old : Member r rows). begun .2 r old)
       (λ (new : Member r (sides m (getD rows taken blank-row))).
-        side-reachable m root (getD rows taken blank-row) r (begun .2 _ (member-at rows taken blank-row lt)) narrow new)
+      side-reachable m root (getD rows taken blank-row) r (begun .2 _ (member-at rows taken blank-row lt)) narrow new)
       (entered-from same-row tells-row rows (sides m (getD rows taken blank-row)) r mem)
 
   same-place : (i : ℕ) → i < length rows → getD now-rows i blank-row ≡ getD rows i blank-row
@@ -106,31 +106,40 @@ module _ (m : Machine) (limit : ℕ) (root : Row) (taken : ℕ) (rows : List Row
   unfolding widened
   taken-grown i li = ⊎-elim
       (λ (at : i ≡ taken).
-        let place : getD now-rows i blank-row ≡ getD rows taken blank-row = same-place i (omega arith) ∙ ap (λ k. getD rows k blank-row) at in
-        (ap (wide m) place ∙ narrow
-        , λ x mem. entered-new same-row tells-row rows (sides m (getD rows taken blank-row))
-            (subst (λ r. Member x (sides m r)) place mem)))
+      let place : getD now-rows i blank-row ≡ getD rows taken blank-row = same-place i (omega arith) ∙ ap (λ k. getD rows k blank-row) at in (
+        ap (wide m) place ∙ narrow,
+        λ x mem. entered-new same-row tells-row rows (sides m (getD rows taken blank-row))
+            (subst (λ r. Member x (sides m r)) place mem),
+      ))
       (λ (ne : i ≡ taken → ⊥).
-        let place : getD now-rows i blank-row ≡ getD rows i blank-row = same-place i (omega arith) in
-        let before = done i (omega arith) in
-        (ap (wide m) place ∙ before .0
-        , λ x mem. entered-old same-row rows (sides m (getD rows taken blank-row))
-            (before .1 x (subst (λ r. Member x (sides m r)) place mem))))
+      let place : getD now-rows i blank-row ≡ getD rows i blank-row = same-place i (omega arith) in
+      let before = done i (omega arith) in (
+        ap (wide m) place ∙ before .0,
+        λ x mem. entered-old same-row rows (sides m (getD rows taken blank-row))
+            (before .1 x (subst (λ r. Member x (sides m r)) place mem)),
+      ))
       (cases-eq i taken)
 
   begun-grown : length now-rows ≤ limit → Begun m limit root now-rows
   begun-grown le = (first-grown, distinct-grown, reachable-grown, le)
 
   outgrown : limit < length now-rows → Result m limit root (record { end = out-of-rows; rows = take limit now-rows })
-  outgrown over =
-      ( (first limit pos, distinct-take same-row limit now-rows distinct-grown
-        , (λ r mem. reachable-grown r (member-take limit now-rows mem))
-        , omega (arith, length-take-le limit now-rows (omega arith)))
-      , (λ e. elim (subst is-all (sym e) tt) [ ])
-      , (λ e. elim (subst is-wide (sym e) tt) [ ])
-      , (λ e. (take (limit + 1) now-rows, length-take-le (limit + 1) now-rows (omega arith)
-          , distinct-take same-row (limit + 1) now-rows distinct-grown
-          , λ r mem. reachable-grown r (member-take (limit + 1) now-rows mem))))
+  outgrown over = (
+    (
+      first limit pos,
+      distinct-take same-row limit now-rows distinct-grown,
+      (λ r mem. reachable-grown r (member-take limit now-rows mem)),
+      omega (arith, length-take-le limit now-rows (omega arith)),
+    ),
+    (λ e. elim (subst is-all (sym e) tt) [ ]),
+    (λ e. elim (subst is-wide (sym e) tt) [ ]),
+    (λ e. (
+      take (limit + 1) now-rows,
+      length-take-le (limit + 1) now-rows (omega arith),
+      distinct-take same-row (limit + 1) now-rows distinct-grown,
+      λ r mem. reachable-grown r (member-take (limit + 1) now-rows mem),
+    )),
+  )
     where
       first : (n : ℕ) → 1 ≤ n → (more : List Row) × (take n now-rows ≡ root ∷ more)
       first zero le = absurd (omega arith)
@@ -143,33 +152,39 @@ meet-on-result m limit root zero taken rows pos fuel le begun done =
     absurd (omega (arith, begun .3))
 meet-on-result m limit root (suc steps) taken rows pos fuel le begun done =
     go (leb (length rows) taken) refl (wide m (getD rows taken blank-row)) refl
-      (ltb limit (length (widened m rows taken))) refl (meet-on-result m limit root steps (taken + 1) (widened m rows taken) pos)
+    (ltb limit (length (widened m rows taken))) refl (meet-on-result m limit root steps (taken + 1) (widened m rows taken) pos)
   where
     next : List Row
     next = widened m rows taken
+
     go : (a : Bool) → leb (length rows) taken ≡ a → (b : Bool) → wide m (getD rows taken blank-row) ≡ b →
         (c : Bool) → ltb limit (length (widened m rows taken)) ≡ c →
         (steps + (taken + 1) ≡ limit + 1 → taken + 1 ≤ length next → Begun m limit root next → Taken m (taken + 1) next →
-          Result m limit root (meet-on m limit steps (taken + 1) next)) →
-        Result m limit root (elim a
-          [ true ↦ record { end = all; rows = rows }
-          | false ↦ elim b
-              [ true ↦ record { end = wide-row; rows = rows }
-              | false ↦ elim c
-                  [ true ↦ record { end = out-of-rows; rows = take limit (widened m rows taken) }
-                  | false ↦ meet-on m limit steps (taken + 1) (widened m rows taken)
-                  ]
-              ]
-          ])
+        Result m limit root (meet-on m limit steps (taken + 1) next)) →
+        Result m limit root (elim a [
+          | true ↦ record { end = all; rows = rows }
+          | false ↦ elim b [
+            | true ↦ record { end = wide-row; rows = rows }
+            | false ↦ elim c [
+              | true ↦ record { end = out-of-rows; rows = take limit (widened m rows taken) }
+              | false ↦ meet-on m limit steps (taken + 1) (widened m rows taken)
+            ]
+          ]
+        ])
     go true ea b eb c ec rec =
-        let past : length rows ≤ taken = leb-true (length rows) taken ea in
-        ( begun, (λ e i li. done i (omega arith))
-        , (λ e. elim (subst is-all e tt) [ ]), (λ e. elim (subst is-all e tt) [ ]))
+        let past : length rows ≤ taken = leb-true (length rows) taken ea in (
+          begun,
+          (λ e i li. done i (omega arith)),
+          (λ e. elim (subst is-all e tt) [ ]),
+          (λ e. elim (subst is-all e tt) [ ]),
+        )
     go false ea true eb c ec rec =
-        let lt : taken < length rows = leb-false (length rows) taken ea in
-        ( begun, (λ e. elim (subst is-wide e tt) [ ])
-        , (λ e. (getD rows taken blank-row, begun .2 _ (member-at rows taken blank-row lt), eb))
-        , (λ e. elim (subst is-wide e tt) [ ]))
+        let lt : taken < length rows = leb-false (length rows) taken ea in (
+          begun,
+          (λ e. elim (subst is-wide e tt) [ ]),
+          (λ e. (getD rows taken blank-row, begun .2 _ (member-at rows taken blank-row lt), eb)),
+          (λ e. elim (subst is-wide e tt) [ ]),
+        )
     go false ea false eb true ec rec =
         let lt : taken < length rows = leb-false (length rows) taken ea in
         outgrown m limit root taken rows pos begun done lt eb (ltb-true limit (length next) ec)
@@ -177,15 +192,15 @@ meet-on-result m limit root (suc steps) taken rows pos fuel le begun done =
         let lt : taken < length rows = leb-false (length rows) taken ea in
         let fits : length next ≤ limit = ltb-false limit (length next) ec in
         rec (omega arith) (omega (arith, longer m limit root taken rows pos begun done lt eb))
-          (begun-grown m limit root taken rows pos begun done lt eb fits)
-          (taken-grown m limit root taken rows pos begun done lt eb)
+        (begun-grown m limit root taken rows pos begun done lt eb fits)
+        (taken-grown m limit root taken rows pos begun done lt eb)
 
 meet-result : (m : Machine) (limit : ℕ) (root : Row) → 1 ≤ limit → Result m limit root (meet m limit root)
 unfolding meet
 meet-result m limit root pos =
     meet-on-result m limit root (limit + 1) 0 (root ∷ []) pos (omega arith) (omega arith)
-      (([], refl), (refl, tt), (λ r mem. subst (Reachable m root) (sym (member-one mem)) at-root), omega arith)
-      (λ i li. absurd (omega arith))
+    (([], refl), (refl, tt), (λ r mem. subst (Reachable m root) (sym (member-one mem)) at-root), omega arith)
+    (λ i li. absurd (omega arith))
 
 -- rows that were all taken are all that is reachable
 module _ (m : Machine) (root : Row) (rows : List Row) (first : (more : List Row) × (rows ≡ root ∷ more))
@@ -216,9 +231,11 @@ pub meet-all : (m : Machine) (limit : ℕ) (root : Row) → 1 ≤ limit → meet
     Met-all m root (meet m limit root .rows)
 meet-all m limit root pos e =
     let res = meet-result m limit root pos in
-    let rows : List Row = meet m limit root .rows in
-    ((res .0 .1, λ r. (res .0 .2 r, λ reach. every m root rows (res .0 .0) (res .1 e) reach))
-    , none-wide m root rows (res .0 .0) (res .1 e), sided m root rows (res .0 .0) (res .1 e))
+    let rows : List Row = meet m limit root .rows in (
+      (res .0 .1, λ r. (res .0 .2 r, λ reach. every m root rows (res .0 .0) (res .1 e) reach)),
+      none-wide m root rows (res .0 .0) (res .1 e),
+      sided m root rows (res .0 .0) (res .1 e),
+    )
 
 -- there is one number of reachable inequalities, and they do not outnumber it
 pub one-number : (m : Machine) (root : Row) (n k : ℕ) → Numbered m root n → Numbered m root k → n ≡ k
@@ -243,23 +260,27 @@ pub meet-number : (m : Machine) (limit : ℕ) (root : Row) → 1 ≤ limit → m
 meet-number m limit root pos e = (meet m limit root .rows, refl, meet-all m limit root pos e .0)
 
 pub ends-all : (m : Machine) (limit : ℕ) (root : Row) → 1 ≤ limit → Ends-all m limit root
-ends-all m limit root pos =
-    ( (λ e. (meet-all m limit root pos e .1
-        , (length (meet m limit root .rows), meet-begun m limit root pos .3, meet-number m limit root pos e)))
-    , (λ known. ⊎-elim (λ e. e)
-        (⊎-elim
-          (λ e. let w = meet-result m limit root pos .2 e in
-            elim (false≢true (sym (known .0 (w .0) (w .1)) ∙ w .2)) [ ])
-          (λ e. elim (numbered-most m root (known .1 .0) limit (known .1 .2) (known .1 .1) (meet-result m limit root pos .3 e)) [ ]))
-        (end-cases (meet m limit root .end))))
+ends-all m limit root pos = (
+  (λ e. (
+    meet-all m limit root pos e .1,
+    (length (meet m limit root .rows), meet-begun m limit root pos .3, meet-number m limit root pos e),
+  )),
+  (λ known. ⊎-elim (λ e. e)
+      (⊎-elim
+      (λ e. let w = meet-result m limit root pos .2 e in
+      elim (false≢true (sym (known .0 (w .0) (w .1)) ∙ w .2)) [ ])
+      (λ e. elim (numbered-most m root (known .1 .0) limit (known .1 .2) (known .1 .1) (meet-result m limit root pos .3 e)) [ ]))
+      (end-cases (meet m limit root .end))),
+)
 
 pub stops : (m : Machine) (limit : ℕ) (root : Row) → 1 ≤ limit → Stops m limit root
-stops m limit root pos =
-    ( ⊎-elim (λ e. inr (meet-result m limit root pos .2 e)) (λ e. inl (meet-result m limit root pos .3 e))
-    , (λ known. ⊎-elim
-        (λ (e : meet m limit root .end ≡ all). elim (refuse e known) [ ])
-        (λ stopped. stopped)
-        (end-cases (meet m limit root .end))))
+stops m limit root pos = (
+  ⊎-elim (λ e. inr (meet-result m limit root pos .2 e)) (λ e. inl (meet-result m limit root pos .3 e)),
+  (λ known. ⊎-elim
+      (λ (e : meet m limit root .end ≡ all). elim (refuse e known) [ ])
+      (λ stopped. stopped)
+      (end-cases (meet m limit root .end))),
+)
   where
     refuse : meet m limit root .end ≡ all → Outnumber m root limit ⊎ Some-wide m root → ⊥
     refuse e (inl over) = numbered-most m root (length (meet m limit root .rows)) limit

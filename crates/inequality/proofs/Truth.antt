@@ -28,15 +28,20 @@ holds-without m r none h on-left = go (some n p) refl
   where
     n : ℕ
     n = length (m .states)
+
     p : ℕ → Bool
     p q = has (r .right .bits) q && accepts m h q
+
     go : (b : Bool) → some n p ≡ b → (q : ℕ) × (has (r .right .bits) q ≡ true) × (accepts m h q ≡ true)
     go true e =
         let at = some-found n p e in
         let parts = and-parts (has (r .right .bits) (at .0)) _ (at .2) in
         (at .0, parts .0, parts .1)
-    go false e = elim (none h (on-left, λ q in-s. refused (λ accepted.
-        false≢true (sym (some-none n p e q (accepts-state m h q accepted)) ∙ and-from _ _ in-s accepted)))) [ ]
+    go false e = elim (none h (
+      on-left,
+      λ q in-s. refused (λ accepted.
+          false≢true (sym (some-none n p e q (accepts-state m h q accepted)) ∙ and-from _ _ in-s accepted)),
+    )) [ ]
 
 -- no hedge is a witness against a row of a closed table
 unwitnessed : (m : Machine) → Fits m → Named m → (Is Known : Row → Type 0) → Closed m Is Known →
@@ -46,13 +51,13 @@ unwitnessed m fits named Is Known closed known nothing r is wit =
 unwitnessed m fits named Is Known closed known (item t v w) r is wit =
     let split = witness-split m fits named r t v w wit in
     ⊎-elim
-      (⊎-elim
-        (λ a. unwitnessed m fits named Is Known closed known v (split .0 .content) a (split .2))
-        (λ k. witness-fails m (split .0 .content) v (split .2) (known (split .0 .content) k)))
-      (⊎-elim
-        (λ a. unwitnessed m fits named Is Known closed known w (split .0 .rest) a (split .3))
-        (λ k. witness-fails m (split .0 .rest) w (split .3) (known (split .0 .rest) k)))
-      (closed .1 r (split .0) is (split .1))
+    (⊎-elim
+    (λ a. unwitnessed m fits named Is Known closed known v (split .0 .content) a (split .2))
+    (λ k. witness-fails m (split .0 .content) v (split .2) (known (split .0 .content) k)))
+    (⊎-elim
+    (λ a. unwitnessed m fits named Is Known closed known w (split .0 .rest) a (split .3))
+    (λ k. witness-fails m (split .0 .rest) w (split .3) (known (split .0 .rest) k)))
+    (closed .1 r (split .0) is (split .1))
 
 pub closed-true : (m : Machine) → Fits m → Named m → Closed-true m
 closed-true m fits named Is Known closed known r is =
@@ -74,8 +79,8 @@ witness-refuted m fits named r nothing wit = by-empty (witness-inconsistent m r 
 witness-refuted m fits named r (item t v w) wit =
     let split = witness-split m fits named r t v w wit in
     by-either-or (split .1)
-      (witness-refuted m fits named (split .0 .content) v (split .2))
-      (witness-refuted m fits named (split .0 .rest) w (split .3))
+    (witness-refuted m fits named (split .0 .content) v (split .2))
+    (witness-refuted m fits named (split .0 .rest) w (split .3))
 
 pub refuted-fails : (m : Machine) → Fits m → Refuted-fails m
 refuted-fails m fits r ref holds =

@@ -35,8 +35,10 @@ unmarked-found (x ∷ rows) (b ∷ ms) r p = go b p (unmarked-found rows ms r)
   where
     Found : List Row → List Bool → Type 0
     Found rows ms = (i : ℕ) × (i < length rows) × (getD rows i blank-row ≡ r) × (getD ms i false ≡ false)
+
     later : (b : Bool) → Found rows ms → Found (x ∷ rows) (b ∷ ms)
     later b at = (suc (at .0), omega (arith, at .1), at .2, at .3)
+
     go : (b : Bool) → Member r (cond b (unmarked rows ms) (x ∷ unmarked rows ms)) →
         (Member r (unmarked rows ms) → Found rows ms) → Found (x ∷ rows) (b ∷ ms)
     go true p rec = later true (rec p)
@@ -54,21 +56,23 @@ unmarked-from (x ∷ rows) (false ∷ ms) (suc i) lt e = there (unmarked-from ro
 -- With right marks the unmarked rows are exactly the rows that are not refuted.
 pub unmarked-unrefuted : (m : Machine) (rows : List Row) (ms : List Bool) → Right m rows ms → (r : Row) →
     Member r (unmarked rows ms) ↔ (Member r rows × (Refuted m r → ⊥))
-unmarked-unrefuted m rows ms right r =
-    ( (λ p. let at = unmarked-found rows ms r p in
-        ( subst (λ x. Member x rows) (at .2) (member-at rows (at .0) blank-row (at .1))
-        , λ ref. false≢true (sym (at .3) ∙ right .2 (at .0) (at .1) (subst (Refuted m) (sym (at .2)) ref))))
-    , (λ known. let at = place-of blank-row (known .0) in
-        subst (λ x. Member x (unmarked rows ms)) (at .2) (unmarked-from rows ms (at .0) (at .1)
-          (refused (λ set. known .1 (subst (Refuted m) (at .2) (right .1 (at .0) (at .1) set)))))))
+unmarked-unrefuted m rows ms right r = (
+  (λ p. let at = unmarked-found rows ms r p in (
+    subst (λ x. Member x rows) (at .2) (member-at rows (at .0) blank-row (at .1)),
+    λ ref. false≢true (sym (at .3) ∙ right .2 (at .0) (at .1) (subst (Refuted m) (sym (at .2)) ref)),
+  )),
+  (λ known. let at = place-of blank-row (known .0) in
+      subst (λ x. Member x (unmarked rows ms)) (at .2) (unmarked-from rows ms (at .0) (at .1)
+      (refused (λ set. known .1 (subst (Refuted m) (at .2) (right .1 (at .0) (at .1) set)))))),
+)
 
 -- right marks are unique, so however they are found they are `marks`
 pub right-unique : (m : Machine) (rows : List Row) (xs ys : List Bool) → Right m rows xs → Right m rows ys → xs ≡ ys
 right-unique m rows xs ys a b =
     ext-getD false xs ys (a .0 ∙ sym (b .0)) (λ i lt.
-      let li : i < length rows = omega (arith, a .0) in
-      same (getD xs i false) (getD ys i false)
-        (λ e. b .2 i li (a .1 i li e)) (λ e. a .2 i li (b .1 i li e)))
+    let li : i < length rows = omega (arith, a .0) in
+    same (getD xs i false) (getD ys i false)
+    (λ e. b .2 i li (a .1 i li e)) (λ e. a .2 i li (b .1 i li e)))
   where
     same : (x y : Bool) → (x ≡ true → y ≡ true) → (y ≡ true → x ≡ true) → x ≡ y
     same true y f g = sym (f refl)
@@ -81,10 +85,10 @@ refuted-or-not m rows sided r mem =
     let right = marks-right m rows sided in
     let at = place-of blank-row mem in
     ⊎-elim
-      (λ (set : getD (marks m rows) (at .0) false ≡ true). inl (subst (Refuted m) (at .2) (right .1 (at .0) (at .1) set)))
-      (λ (unset : getD (marks m rows) (at .0) false ≡ false). inr (λ ref.
-        false≢true (sym unset ∙ right .2 (at .0) (at .1) (subst (Refuted m) (sym (at .2)) ref))))
-      (cases-bool (getD (marks m rows) (at .0) false))
+    (λ (set : getD (marks m rows) (at .0) false ≡ true). inl (subst (Refuted m) (at .2) (right .1 (at .0) (at .1) set)))
+    (λ (unset : getD (marks m rows) (at .0) false ≡ false). inr (λ ref.
+    false≢true (sym unset ∙ right .2 (at .0) (at .1) (subst (Refuted m) (sym (at .2)) ref))))
+    (cases-bool (getD (marks m rows) (at .0) false))
 
 pub refuted-or-holds : (m : Machine) → Fits m → Named m → (rows : List Row) → Sided m rows → (r : Row) →
     Member r rows → Refuted m r ⊎ Holds m r
@@ -94,9 +98,10 @@ refuted-or-holds m fits named rows sided r mem =
 -- a table that shows its root is closed, whatever is known, so each of its rows holds
 pub shows-closed : (m : Machine) (root : Row) (rows : List Row) → Shows m root rows → (Known : Row → Type 0) →
     Closed m (λ r. Member r rows) Known
-shows-closed m root rows shows Known =
-    ( (λ r mem. shows .1 r mem .0)
-    , (λ r e mem-r mem-e. ⊎-elim (λ a. inl (inl a)) (λ b. inr (inl b)) (shows .2 r e mem-r mem-e)))
+shows-closed m root rows shows Known = (
+  (λ r mem. shows .1 r mem .0),
+  (λ r e mem-r mem-e. ⊎-elim (λ a. inl (inl a)) (λ b. inr (inl b)) (shows .2 r e mem-r mem-e)),
+)
 
 pub shows-true : (m : Machine) → Fits m → Named m → (root : Row) (rows : List Row) → Shows m root rows →
     (r : Row) → Member r rows → Holds m r
@@ -107,26 +112,29 @@ shows-true m fits named root rows shows =
 pub unmarked-shows : (m : Machine) (root : Row) (rows : List Row) (ms : List Bool) →
     (more : List Row) × (rows ≡ root ∷ more) → Met-all m root rows → Right m rows ms → (Refuted m root → ⊥) →
     Shows m root (unmarked rows ms)
-unmarked-shows m root rows ms first met right none =
-    ( begins rows ms first (unset 0 (omega (arith, ap length (first .1))) (ap (λ l. getD l 0 blank-row) (first .1)))
-    , (λ r mem. let is = unmarked-unrefuted m rows ms right r .0 mem in
-        (refused (λ e. is .1 (by-empty e)), met .1 r (met .0 .1 r .0 (is .0))))
-    , (λ r e mem-r mem-e.
-        let is = unmarked-unrefuted m rows ms right r .0 mem-r in
-        let both = met .2 r e (is .0) mem-e in
-        ⊎-elim
-          (λ (c : Refuted m (e .content)). inr (unmarked-unrefuted m rows ms right (e .rest) .1
-            (both .1, λ d. is .1 (by-either-or mem-e c d))))
-          (λ (c : Refuted m (e .content) → ⊥). inl (unmarked-unrefuted m rows ms right (e .content) .1 (both .0, c)))
-          (refuted-or-not m rows (met .2) (e .content) (both .0))))
+unmarked-shows m root rows ms first met right none = (
+  begins rows ms first (unset 0 (omega (arith, ap length (first .1))) (ap (λ l. getD l 0 blank-row) (first .1))),
+  (λ r mem. let is = unmarked-unrefuted m rows ms right r .0 mem in
+      (refused (λ e. is .1 (by-empty e)), met .1 r (met .0 .1 r .0 (is .0)))),
+  (λ r e mem-r mem-e.
+      let is = unmarked-unrefuted m rows ms right r .0 mem-r in
+      let both = met .2 r e (is .0) mem-e in
+      ⊎-elim
+      (λ (c : Refuted m (e .content)). inr (unmarked-unrefuted m rows ms right (e .rest) .1
+      (both .1, λ d. is .1 (by-either-or mem-e c d))))
+      (λ (c : Refuted m (e .content) → ⊥). inl (unmarked-unrefuted m rows ms right (e .content) .1 (both .0, c)))
+      (refuted-or-not m rows (met .2) (e .content) (both .0))),
+)
   where
     unset : (i : ℕ) → i < length rows → getD rows i blank-row ≡ root → getD ms i false ≡ false
     unset i lt at = refused (λ set. none (subst (Refuted m) at (right .1 i lt set)))
+
     begins-at : (rows : List Row) (ms : List Bool) → getD ms 0 false ≡ false →
         (more : List Row) × (unmarked (root ∷ rows) ms ≡ root ∷ more)
     begins-at rows [] e = (rows, refl)
     begins-at rows (true ∷ ms) e = elim (false≢true (sym e)) [ ]
     begins-at rows (false ∷ ms) e = (unmarked rows ms, refl)
+
     begins : (rows : List Row) (ms : List Bool) → (more : List Row) × (rows ≡ root ∷ more) → getD ms 0 false ≡ false →
         (more : List Row) × (unmarked rows ms ≡ root ∷ more)
     begins rows ms first e =
@@ -138,32 +146,54 @@ pub unmarked-distinct : (rows : List Row) (ms : List Bool) → Distinct same-row
 unmarked-distinct [] ms d = tt
 unmarked-distinct (r ∷ rows) [] d = d
 unmarked-distinct (r ∷ rows) (true ∷ ms) d = unmarked-distinct rows ms (d .1)
-unmarked-distinct (r ∷ rows) (false ∷ ms) d =
-    (none-any (same-row r) (unmarked rows ms) (λ x p.
+unmarked-distinct (r ∷ rows) (false ∷ ms) d = (
+  none-any (same-row r) (unmarked rows ms) (λ x p.
       let at = unmarked-found rows ms x p in
-      any-none (same-row r) (d .0) (subst (λ y. Member y rows) (at .2) (member-at rows (at .0) blank-row (at .1))))
-    , unmarked-distinct rows ms (d .1))
+      any-none (same-row r) (d .0) (subst (λ y. Member y rows) (at .2) (member-at rows (at .0) blank-row (at .1)))),
+  unmarked-distinct rows ms (d .1),
+)
+
+-- the root of a list that is closed under sides is excluded exactly when it is refuted
+pub excluded-refuted : (m : Machine) (root : Row) (rows : List Row) → (more : List Row) × (rows ≡ root ∷ more) →
+    Sided m rows → (excluded m rows ≡ true) ↔ Refuted m root
+unfolding excluded
+excluded-refuted m root rows first sided = (
+  (λ set. subst (Refuted m) at (right .1 0 some set)),
+  (λ ref. right .2 0 some (subst (Refuted m) (sym at) ref)),
+)
+  where
+    some : 0 < length rows
+    some = omega (arith, ap length (first .1))
+
+    at : getD rows 0 blank-row ≡ root
+    at = ap (λ l. getD l 0 blank-row) (first .1)
+
+    right : Right m rows (marks m rows)
+    right = marks-right m rows sided
 
 -- the verdict on a root whose reachable inequalities were all met
 pub verdict-true : (m : Machine) → Fits m → Named m → (limit : ℕ) (root : Row) → 1 ≤ limit →
     meet m limit root .end ≡ all → True-verdict m root (meet m limit root .rows)
-unfolding excluded table
-verdict-true m fits named limit root pos e =
-    ( (λ yes′. refuted-witness m fits root (subst (Refuted m) at (right .1 0 some yes′)))
-    , (λ no′. (unrefuted-holds m fits named root (unrefuted no′)
-        , unmarked-shows m root rows (marks m rows) first met right (unrefuted no′))))
+unfolding table
+verdict-true m fits named limit root pos e = (
+  (λ yes′. refuted-witness m fits root (decides .0 yes′)),
+  (λ no′. (
+    unrefuted-holds m fits named root (unrefuted no′),
+    unmarked-shows m root rows (marks m rows) first met (marks-right m rows (met .2)) (unrefuted no′),
+  )),
+)
   where
     rows : List Row
     rows = meet m limit root .rows
+
     met : Met-all m root rows
     met = meet-all m limit root pos e
+
     first : (more : List Row) × (rows ≡ root ∷ more)
     first = meet-begun m limit root pos .0
-    some : 0 < length rows
-    some = omega (arith, ap length (first .1))
-    at : getD rows 0 blank-row ≡ root
-    at = ap (λ l. getD l 0 blank-row) (first .1)
-    right : Right m rows (marks m rows)
-    right = marks-right m rows (met .2)
-    unrefuted : getD (marks m rows) 0 false ≡ false → Refuted m root → ⊥
-    unrefuted no′ ref = false≢true (sym no′ ∙ right .2 0 some (subst (Refuted m) (sym at) ref))
+
+    decides : (excluded m rows ≡ true) ↔ Refuted m root
+    decides = excluded-refuted m root rows first (met .2)
+
+    unrefuted : excluded m rows ≡ false → Refuted m root → ⊥
+    unrefuted no′ ref = false≢true (sym no′ ∙ decides .1 ref)

@@ -56,4 +56,4 @@ abbrev pub Swept : Machine → List Row → List Bool → Type 0
 Swept m rows marks = (i : ℕ) → i < length rows →
     (inconsistent m (getD rows i blank-row) ≡ true → getD marks i false ≡ true)
     × ((e : EitherOr) → Member e (either-ors m (getD rows i blank-row)) →
-        marked rows marks (e .content) ≡ true → marked rows marks (e .rest) ≡ true → getD marks i false ≡ true)
+    marked rows marks (e .content) ≡ true → marked rows marks (e .rest) ≡ true → getD marks i false ≡ true)

@@ -15,7 +15,7 @@ abbrev pub Closed : Machine → (Row → Type 0) → (Row → Type 0) → Type 0
 Closed m Is Known =
     ((r : Row) → Is r → inconsistent m r ≡ false)
     × ((r : Row) (e : EitherOr) → Is r → Member e (either-ors m r) →
-        (Is (e .content) ⊎ Known (e .content)) ⊎ (Is (e .rest) ⊎ Known (e .rest)))
+    (Is (e .content) ⊎ Known (e .content)) ⊎ (Is (e .rest) ⊎ Known (e .rest)))
 
 -- Every row of a closed table holds if what is known holds.
 abbrev pub Closed-true : Machine → Type 1

@@ -32,7 +32,7 @@ abbrev pub Shows : Machine → Row → List Row → Type 0
 Shows m root rows = ((more : List Row) × (rows ≡ root ∷ more))
     × ((r : Row) → Member r rows → (inconsistent m r ≡ false) × (wide m r ≡ false))
     × ((r : Row) (e : EitherOr) → Member r rows → Member e (either-ors m r) →
-        Member (e .content) rows ⊎ Member (e .rest) rows)
+    Member (e .content) rows ⊎ Member (e .rest) rows)
 
 -- the verdict on the rows met from a root is true: with `excluded`, some hedge is a witness against
 -- the root; without it, the root holds, and the table of the unrefuted rows shows it
