@@ -4,3 +4,5 @@ pub mod Simulation
 pub mod Names
 pub mod Sets
 pub mod Tables
+pub mod Functions
+pub mod Rules
