@@ -12,7 +12,7 @@ use Rattle.theory.specs.Language.{Expr, none, empty, simple, rule, element, uni
 use Rattle.theory.specs.Derivative.{join, Null, null-rule, Der, der-simple, der-element, der-rule, der-left, der-right, der-first, der-second, der-star}
 use Rattle.theory.specs.Recursion.{Mentions, mention, of-left, of-right, of-first, of-second, of-guarded, of-star, Lawful-rules}
 use Rattle.theory.specs.Inequality.{Member}
-use Rattle.meaning.specs.Functions.{nullable?, Derived, derivatives?, grown, rule-null, nulls-of, rule-ders, ders-of, nullable-of, derivatives-of, Of-rules, Within, Nullable-law, Derivatives-law, Followed-law}
+use Rattle.meaning.specs.Functions.{nullable?, Derived, derivatives?, grown, rule-null, nulls-of, rule-ders, ders-of, nullable-of, derivatives-of, Of-rules, Within, Nullable-law, Derivatives-law, Followed-law, Within-law}
 use Rattle.meaning.proofs.Functions.{nullable-sound, nullable-complete, nullable-agree, derivatives-sound, derivatives-complete, derivatives-agree}
 
 -- a grown table has n entries
@@ -178,3 +178,45 @@ derivatives-law bodies n lawful e of-rules h c r =
 pub followed-law : Followed-law
 unfolding nullable-of derivatives-of
 followed-law bodies n lawful k lt = (nulls-follow bodies n lawful k lt, ders-follow bodies n lawful k lt)
+
+-- mentions of n rules
+
+pub within-of-rules : (bodies : ℕ → Expr) (n : ℕ) (e : Expr) → Within n e → Of-rules bodies n e
+within-of-rules bodies n e w k s g m = go m w
+  where
+    go : {e : Expr} {s g : Bool} → Mentions bodies e k s g → Within n e → k < n
+    go mention w = w
+    go (of-left m) w = go m (w .0)
+    go (of-right m) w = go m (w .1)
+    go (of-first m) w = go m (w .0)
+    go (of-second p m) w = go m (w .1)
+    go (of-guarded p m) w = go m (w .1)
+    go (of-star m) w = go m w
+
+within-join : (n : ℕ) (r s : Expr) → Within n r → Within n s → Within n (join r s)
+within-join n none s p q = (p, q)
+within-join n empty s p q = q
+within-join n (simple b) s p q = (p, q)
+within-join n (rule k) s p q = (p, q)
+within-join n (element e c) s p q = (p, q)
+within-join n (union a b) s p q = (p, q)
+within-join n (seq a b) s p q = (p, q)
+within-join n (star a) s p q = (p, q)
+
+within-der : (bodies : ℕ → Expr) (n : ℕ) → ((k : ℕ) → Within n (bodies k)) →
+    {e : Expr} {h : ℕ} {c r : Expr} → Within n e → Der bodies e h c r → Within n c × Within n r
+within-der bodies n all w der-simple = (tt, tt)
+within-der bodies n all w der-element = (w, tt)
+within-der bodies n all w (der-rule {k = k} d) = within-der bodies n all (all k) d
+within-der bodies n all w (der-left d) = within-der bodies n all (w .0) d
+within-der bodies n all w (der-right d) = within-der bodies n all (w .1) d
+within-der bodies n all w (der-first {b = b} {r = r} d e) =
+    let (c, x) = within-der bodies n all (w .0) d in
+    (c, subst (Within n) (sym e) (within-join n r b x (w .1)))
+within-der bodies n all w (der-second p d) = within-der bodies n all (w .1) d
+within-der bodies n all w (der-star {a = a} {r = r} d e) =
+    let (c, x) = within-der bodies n all w d in
+    (c, subst (Within n) (sym e) (within-join n r (star a) x w))
+
+pub within-law : Within-law
+within-law bodies n all e h c r w d = within-der bodies n all w d

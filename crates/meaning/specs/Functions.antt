@@ -114,3 +114,8 @@ abbrev pub Followed-law : Type 0
 Followed-law = (bodies : ℕ → Expr) (n : ℕ) → Lawful-rules bodies n → (k : ℕ) → k < n →
     (nullable-of bodies n (rule k) ≡ nullable-of bodies n (bodies k)) ×
     (derivatives-of bodies n (rule k) ≡ derivatives-of bodies n (bodies k))
+
+-- an expression whose mentions are all of n rules has only such contents and rests
+abbrev pub Within-law : Type 0
+Within-law = (bodies : ℕ → Expr) (n : ℕ) → ((k : ℕ) → Within n (bodies k)) →
+    (e : Expr) (h : ℕ) (c r : Expr) → Within n e → Der bodies e h c r → Within n c × Within n r
