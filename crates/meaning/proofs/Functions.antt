@@ -1,19 +1,16 @@
 -- The functions tell nullability and list the derivatives of a lawful grammar's expressions.
-use Prim.Native.Nat.{ℕ, zero, suc, _+_, _<_, _≤_}
-use native.Mathlib.Omega.{arith}
+use Prim.Native.Nat.{ℕ}
 use native.Mathlib.Decide.{ℕ-discrete}
 use mathlib.Core.Bool.{Bool, true, false, cond, _&&_, _||_}
 use mathlib.Core.Path.{_≡_, refl, sym, ap, ap₂, subst, _∙_}
-use mathlib.Core.List.{List, [], _∷_, _++_, map}
-use mathlib.Core.Logic.{_↔_, _⊎_, inl, inr, ⊎-elim}
-use lib.ListN.{length, getD}
-use Rattle.std.proofs.shelf.Lists.{getD-append-left, getD-past, getD-push, length-push}
-use Rattle.std.proofs.shelf.Tests.{and-parts, and-from, and-left, or-cases, or-left, or-right, cases-bool, cases-eq, cases-lt, cond-true, cond-false, eqb-true, eq-eqb, false≢true}
+use mathlib.Core.List.{List, [], _++_, map}
+use mathlib.Core.Logic.{_⊎_, inl, inr, ⊎-elim}
+use Rattle.std.proofs.shelf.Tests.{and-parts, and-from, and-left, or-cases, or-left, or-right, cases-bool, cond-true, eqb-true, false≢true}
 use Rattle.theory.specs.Language.{Expr, Expr-discrete, none, empty, simple, rule, element, union, seq, star}
-use Rattle.theory.specs.Derivative.{join, Null, null-empty, null-rule, null-left, null-right, null-seq, null-star, Der, der-simple, der-element, der-rule, der-left, der-right, der-first, der-second, der-star}
-use Rattle.theory.specs.Recursion.{Mentions, mention, of-left, of-right, of-first, of-second, of-guarded, of-star, Lawful-rule, Lawful-rules}
-use Rattle.theory.specs.Inequality.{Member, here, there}
-use Rattle.meaning.specs.Functions.{nullable?, Derived, same-expr, same-derived, once, joined, derivatives?, grown, rule-null, nulls-of, rule-ders, ders-of, nullable-of, derivatives-of, Of-rules, Within, Nullable-law, Derivatives-law, Followed-law}
+use Rattle.theory.specs.Derivative.{Null, null-empty, null-rule, null-left, null-right, null-seq, null-star, Der, der-simple, der-element, der-rule, der-left, der-right, der-first, der-second, der-star}
+use Rattle.theory.specs.Recursion.{Mentions, mention, of-left, of-right, of-first, of-second, of-star}
+use Rattle.theory.specs.Inequality.{Member, here}
+use Rattle.meaning.specs.Functions.{nullable?, Derived, same-expr, same-derived, once, joined, derivatives?}
 use Rattle.meaning.proofs.Members.{member-left, member-right, member-either, member-one, member-map, map-member, entered-member, entered-new}
 
 -- same means equal

@@ -6,3 +6,4 @@ pub mod Sets
 pub mod Tables
 pub mod Functions
 pub mod Rules
+mod Examples

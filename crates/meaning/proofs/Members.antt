@@ -4,10 +4,11 @@ use native.Mathlib.Omega.{arith}
 use native.Mathlib.Nat.{not-suc-le-zero, le-of-suc-le-suc}
 use native.Mathlib.Numerals.{add-one}
 use mathlib.Core.Bool.{Bool, true, false, cond, _||_}
-use mathlib.Core.Path.{_≡_, refl, sym, ap, subst}
+use mathlib.Core.Path.{_≡_, refl, sym, ap, ap₂, subst, _∙_}
 use mathlib.Core.List.{List, [], _∷_, _++_, map}
 use mathlib.Core.Logic.{_⊎_, inl, inr, ⊎-elim}
 use lib.ListN.{length, getD}
+use Rattle.std.proofs.shelf.Lists.{map-push}
 use Rattle.std.proofs.shelf.Tests.{or-cases, or-left, or-right, false≢true, cases-eq}
 use Rattle.theory.specs.Count.{some, any, enter, entered}
 use Rattle.theory.specs.Inequality.{Member, here, there}
@@ -156,3 +157,39 @@ pub entered-append : {A : Type 0} (same : A → A → Bool) (book xs ys : List A
     entered same book (xs ++ ys) ≡ entered same (entered same book xs) ys
 entered-append same book [] ys = refl
 entered-append same book (x ∷ xs) ys = entered-append same (enter same book x) xs ys
+
+pub any-map : {A B : Type 0} (f : A → B) (p : A → Bool) (q : B → Bool) (xs : List A) →
+    ((x : A) → Member x xs → p x ≡ q (f x)) → any p xs ≡ any q (map f xs)
+any-map f p q [] same = refl
+any-map f p q (x ∷ xs) same =
+    ap₂ _||_ (same x here) (any-map f p q xs (λ y m. same y (there m)))
+
+-- Records that f turns into others: where f keeps apart what is to be kept apart, a book of the
+-- one is turned into the book of the other. `P` says of which records this is known.
+pub enter-map : {A B : Type 0} (f : A → B) (same : A → A → Bool) (alike : B → B → Bool) (P : A → Type 0) →
+    ((x y : A) → P x → P y → same x y ≡ alike (f x) (f y)) →
+    (book : List A) (x : A) → ((y : A) → Member y book → P y) → P x →
+    map f (enter same book x) ≡ enter alike (map f book) (f x)
+enter-map f same alike P told book x all px =
+    go (any (same x) book) (any (alike (f x)) (map f book))
+        (any-map f (same x) (alike (f x)) book (λ y m. told x y px (all y m)))
+  where
+    go : (a b : Bool) → a ≡ b →
+        map f (cond a book (book ++ x ∷ [])) ≡ cond b (map f book) (map f book ++ f x ∷ [])
+    go true true e = refl
+    go true false e = elim (false≢true (sym e)) [ ]
+    go false true e = elim (false≢true e) [ ]
+    go false false e = map-push f book x
+
+pub entered-map : {A B : Type 0} (f : A → B) (same : A → A → Bool) (alike : B → B → Bool) (P : A → Type 0) →
+    ((x y : A) → P x → P y → same x y ≡ alike (f x) (f y)) →
+    (book xs : List A) → ((y : A) → Member y book → P y) → ((y : A) → Member y xs → P y) →
+    map f (entered same book xs) ≡ entered alike (map f book) (map f xs)
+entered-map f same alike P told book [] all more = refl
+entered-map f same alike P told book (x ∷ xs) all more =
+    entered-map f same alike P told (enter same book x) xs
+        (λ y m. ⊎-elim (λ old. all y old)
+            (λ new. subst P (sym (member-one new)) (more x here))
+            (entered-member same book (x ∷ []) m))
+        (λ y m. more y (there m))
+    ∙ ap (λ b. entered alike b (map f xs)) (enter-map f same alike P told book x all (more x here))

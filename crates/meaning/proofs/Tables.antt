@@ -1,7 +1,7 @@
 -- The table of state sets tells which states have which hedge.
 use Prim.Native.Nat.{ℕ, zero, suc, _+_, _<_, _≤_}
 use native.Mathlib.Omega.{arith}
-use mathlib.Core.Bool.{Bool, true, false, _&&_}
+use mathlib.Core.Bool.{Bool, false, _&&_}
 use mathlib.Core.Path.{_≡_, refl, sym, ap, ap₂, fun-ext, _∙_}
 use mathlib.Core.List.{List, [], _∷_, _++_}
 use mathlib.Core.Logic.{⊎-elim}
@@ -13,10 +13,10 @@ use Rattle.model.specs.Blank.{blank-item}
 use Rattle.model.specs.Sets.{has}
 use Rattle.model.specs.Machine.{Derivative, nullable-at, derivatives-at, no-state}
 use Rattle.theory.specs.Hedge.{Hedge, nothing, item}
-use Rattle.theory.specs.Count.{some, any}
-use Rattle.theory.specs.Items.{hedges, spelling, from-item, spelled}
+use Rattle.theory.specs.Count.{any}
+use Rattle.theory.specs.Items.{spelling, from-item, spelled}
 use Rattle.theory.specs.Machine.{Machine, accepts}
-use Rattle.theory.specs.Inequality.{derivative, derivative-count, no-derivative}
+use Rattle.theory.specs.Inequality.{no-derivative}
 use Rattle.meaning.specs.Tables.{gather, nullable-set, allows, takes, set-at, item-set, tabling, state-sets, has-spelled, Table-law, Membership-law, Rule-membership}
 use Rattle.meaning.proofs.Members.{some-any}
 use Rattle.meaning.proofs.Simulation.{rule-simulation}
