@@ -2,7 +2,6 @@
 use Prim.Native.Nat.{ℕ}
 use mathlib.Core.Bool.{Bool, true}
 use mathlib.Core.Path.{_≡_, refl, subst}
-use mathlib.Core.Logic.{_↔_}
 use Rattle.theory.specs.Hedge.{Hedge, nothing, item, Follows, at-once, after}
 use Rattle.theory.specs.Language.{Expr, none, empty, simple, rule, element, union, seq, star, In, in-empty, in-simple, in-element, in-rule, in-left, in-right, in-seq, in-none-of, in-more-of}
 use Rattle.theory.specs.Derivative.{join, Null, null-empty, null-rule, null-left, null-right, null-seq, null-star, Der, der-simple, der-element, der-rule, der-left, der-right, der-first, der-second, der-star}

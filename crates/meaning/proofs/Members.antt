@@ -3,13 +3,14 @@ use Prim.Native.Nat.{ℕ, zero, suc, _+_, _<_}
 use native.Mathlib.Omega.{arith}
 use native.Mathlib.Nat.{not-suc-le-zero, le-of-suc-le-suc}
 use native.Mathlib.Numerals.{add-one}
-use mathlib.Core.Bool.{Bool, true, false, _||_}
-use mathlib.Core.Path.{_≡_, refl, sym, ap, subst}
-use mathlib.Core.List.{List, [], _∷_, _++_}
+use mathlib.Core.Bool.{Bool, true, false, cond, _||_}
+use mathlib.Core.Path.{_≡_, refl, sym, ap, ap₂, subst, _∙_}
+use mathlib.Core.List.{List, [], _∷_, _++_, map}
 use mathlib.Core.Logic.{_⊎_, inl, inr, ⊎-elim}
 use lib.ListN.{length, getD}
+use Rattle.std.proofs.shelf.Lists.{map-push}
 use Rattle.std.proofs.shelf.Tests.{or-cases, or-left, or-right, false≢true, cases-eq}
-use Rattle.theory.specs.Count.{some, any}
+use Rattle.theory.specs.Count.{some, any, enter, entered}
 use Rattle.theory.specs.Inequality.{Member, here, there}
 
 -- a test that some element passes
@@ -78,3 +79,117 @@ some-any p xs d = same-test _ _
     (λ e. let (x, m, ok) = any-of p xs e in
         let (i, lt, is) = place-of d m in
         some-from (length xs) (λ i. p (getD xs i d)) i lt (subst (λ y. p y ≡ true) (sym is) ok))
+
+pub member-left : {A : Type 0} {x : A} {xs : List A} (ys : List A) → Member x xs → Member x (xs ++ ys)
+member-left ys here = here
+member-left ys (there m) = there (member-left ys m)
+
+pub member-right : {A : Type 0} {x : A} (xs : List A) {ys : List A} → Member x ys → Member x (xs ++ ys)
+member-right [] m = m
+member-right (y ∷ xs) m = there (member-right xs m)
+
+pub member-either : {A : Type 0} {x : A} (xs ys : List A) → Member x (xs ++ ys) → Member x xs ⊎ Member x ys
+member-either [] ys m = inr m
+member-either (y ∷ xs) ys here = inl here
+member-either (y ∷ xs) ys (there m) = ⊎-elim (λ l. inl (there l)) (λ r. inr r) (member-either xs ys m)
+
+pub member-one : {A : Type 0} {x y : A} → Member x (y ∷ []) → x ≡ y
+member-one here = refl
+member-one (there m) = elim m [ ]
+
+pub member-map : {A B : Type 0} (f : A → B) {x : A} {xs : List A} → Member x xs → Member (f x) (map f xs)
+member-map f here = here
+member-map f (there m) = there (member-map f m)
+
+pub map-member : {A B : Type 0} (f : A → B) {y : B} (xs : List A) → Member y (map f xs) →
+    (x : A) × Member x xs × (y ≡ f x)
+map-member f [] m = elim m [ ]
+map-member f (x ∷ xs) here = (x, here, refl)
+map-member f (x ∷ xs) (there m) = let (z, in-xs, e) = map-member f xs m in (z, there in-xs, e)
+
+-- what is in a book once records are entered was there or is one of them
+pub entered-member : {A : Type 0} (same : A → A → Bool) (book xs : List A) {x : A} →
+    Member x (entered same book xs) → Member x book ⊎ Member x xs
+entered-member same book [] m = inl m
+entered-member same book (y ∷ xs) {x} m =
+    ⊎-elim (λ old. first (any (same y) book) old) (λ later. inr (there later))
+        (entered-member same (enter same book y) xs m)
+  where
+    first : (b : Bool) → Member x (cond b book (book ++ y ∷ [])) → Member x book ⊎ Member x (y ∷ xs)
+    first true old = inl old
+    first false new = ⊎-elim (λ old. inl old)
+        (λ one. inr (subst (λ z. Member z (y ∷ xs)) (sym (member-one one)) here))
+        (member-either book (y ∷ []) new)
+
+-- what was there stays
+pub enter-old : {A : Type 0} (same : A → A → Bool) (book : List A) (y : A) {x : A} → Member x book →
+    Member x (enter same book y)
+enter-old same book y {x} m = go (any (same y) book)
+  where
+    go : (b : Bool) → Member x (cond b book (book ++ y ∷ []))
+    go true = m
+    go false = member-left (y ∷ []) m
+
+pub entered-old : {A : Type 0} (same : A → A → Bool) (book xs : List A) {x : A} → Member x book →
+    Member x (entered same book xs)
+entered-old same book [] m = m
+entered-old same book (y ∷ xs) m = entered-old same (enter same book y) xs (enter-old same book y m)
+
+-- and each record is there, if records that are told to be the same are equal
+pub enter-new : {A : Type 0} (same : A → A → Bool) → ((a b : A) → same a b ≡ true → a ≡ b) →
+    (book : List A) (y : A) → Member y (enter same book y)
+enter-new same tells book y = go (any (same y) book) refl
+  where
+    go : (b : Bool) → any (same y) book ≡ b → Member y (cond b book (book ++ y ∷ []))
+    go true e = let (z, m, ok) = any-of (same y) book e in
+        subst (λ w. Member w book) (sym (tells y z ok)) m
+    go false e = member-right book here
+
+pub entered-new : {A : Type 0} (same : A → A → Bool) → ((a b : A) → same a b ≡ true → a ≡ b) →
+    (book xs : List A) {x : A} → Member x xs → Member x (entered same book xs)
+entered-new same tells book [] m = elim m [ ]
+entered-new same tells book (y ∷ xs) here =
+    entered-old same (enter same book y) xs (enter-new same tells book y)
+entered-new same tells book (y ∷ xs) (there m) = entered-new same tells (enter same book y) xs m
+
+-- to enter two lists is to enter the one, then the other
+pub entered-append : {A : Type 0} (same : A → A → Bool) (book xs ys : List A) →
+    entered same book (xs ++ ys) ≡ entered same (entered same book xs) ys
+entered-append same book [] ys = refl
+entered-append same book (x ∷ xs) ys = entered-append same (enter same book x) xs ys
+
+pub any-map : {A B : Type 0} (f : A → B) (p : A → Bool) (q : B → Bool) (xs : List A) →
+    ((x : A) → Member x xs → p x ≡ q (f x)) → any p xs ≡ any q (map f xs)
+any-map f p q [] same = refl
+any-map f p q (x ∷ xs) same =
+    ap₂ _||_ (same x here) (any-map f p q xs (λ y m. same y (there m)))
+
+-- Records that f turns into others: where f keeps apart what is to be kept apart, a book of the
+-- one is turned into the book of the other. `P` says of which records this is known.
+pub enter-map : {A B : Type 0} (f : A → B) (same : A → A → Bool) (alike : B → B → Bool) (P : A → Type 0) →
+    ((x y : A) → P x → P y → same x y ≡ alike (f x) (f y)) →
+    (book : List A) (x : A) → ((y : A) → Member y book → P y) → P x →
+    map f (enter same book x) ≡ enter alike (map f book) (f x)
+enter-map f same alike P told book x all px =
+    go (any (same x) book) (any (alike (f x)) (map f book))
+        (any-map f (same x) (alike (f x)) book (λ y m. told x y px (all y m)))
+  where
+    go : (a b : Bool) → a ≡ b →
+        map f (cond a book (book ++ x ∷ [])) ≡ cond b (map f book) (map f book ++ f x ∷ [])
+    go true true e = refl
+    go true false e = elim (false≢true (sym e)) [ ]
+    go false true e = elim (false≢true e) [ ]
+    go false false e = map-push f book x
+
+pub entered-map : {A B : Type 0} (f : A → B) (same : A → A → Bool) (alike : B → B → Bool) (P : A → Type 0) →
+    ((x y : A) → P x → P y → same x y ≡ alike (f x) (f y)) →
+    (book xs : List A) → ((y : A) → Member y book → P y) → ((y : A) → Member y xs → P y) →
+    map f (entered same book xs) ≡ entered alike (map f book) (map f xs)
+entered-map f same alike P told book [] all more = refl
+entered-map f same alike P told book (x ∷ xs) all more =
+    entered-map f same alike P told (enter same book x) xs
+        (λ y m. ⊎-elim (λ old. all y old)
+            (λ new. subst P (sym (member-one new)) (more x here))
+            (entered-member same book (x ∷ []) m))
+        (λ y m. more y (there m))
+    ∙ ap (λ b. entered alike b (map f xs)) (enter-map f same alike P told book x all (more x here))

@@ -1,13 +1,13 @@
 -- The hedges of a grammar are over its names.
-use Prim.Native.Nat.{ℕ, _<_}
-use mathlib.Core.Bool.{Bool, true}
-use mathlib.Core.Path.{_≡_, refl, sym, ap, _∙_}
+use Prim.Native.Nat.{ℕ}
+use mathlib.Core.Bool.{Bool}
+use mathlib.Core.Path.{refl, sym, ap, _∙_}
 use mathlib.Core.List.{List}
 use Rattle.std.proofs.shelf.Tests.{true≢false}
-use Rattle.model.specs.declared.names.Kind.the-variants.{Simple, Element}
+use Rattle.model.specs.declared.names.Kind.the-variants.{Element}
 use Rattle.model.specs.declared.names.Name.{Name}
-use Rattle.model.specs.Relation.{kind-of, same-kind, Lawful}
-use Rattle.theory.specs.Hedge.{Hedge, nothing, item, Follows, at-once, after}
+use Rattle.model.specs.Relation.{same-kind, Lawful}
+use Rattle.theory.specs.Hedge.{Hedge, Follows, at-once, after}
 use Rattle.theory.specs.Language.{Expr, In, in-empty, in-simple, in-element, in-rule, in-left, in-right, in-seq, in-none-of, in-more-of}
 use Rattle.meaning.specs.Names.{Kinded, Over, Hedges-over-names}
 

@@ -1,5 +1,5 @@
 -- Sets as numbers: what an insertion leaves in a set, and the set of the states that pass a test.
-use Prim.Native.Nat.{ℕ, zero, suc, _+_, _*_, _-_, _/_, _%_, _^_, _<_, _≤_}
+use Prim.Native.Nat.{ℕ, zero, suc, _+_, _-_, _/_, _%_, _^_, _<_, _≤_}
 use native.Mathlib.Omega.{arith}
 use native.Mathlib.Nat.{div-eq-of-lt, div-self, pow-suc, mul-mod-left}
 use native.Mathlib.Numerals.{add-one}
@@ -9,7 +9,7 @@ use mathlib.Core.Logic.{_⊎_, inl, inr, ⊎-elim}
 use lib.Dec.{eqb, ltb}
 use lib.Bits.{bitOr, or-shr, or-mod}
 use Rattle.std.proofs.shelf.Bits.{pow-add, pow-pos, pow-below, shl-shr, mod-below}
-use Rattle.std.proofs.shelf.Tests.{cases-eq, cases-lt, cond-true, and-right, or-from, or-left, or-right, eq-eqb, ne-eqb, lt-ltb}
+use Rattle.std.proofs.shelf.Tests.{cases-eq, cases-lt, cond-true, and-right, or-from, or-right, eq-eqb, ne-eqb, lt-ltb}
 use Rattle.model.specs.Sets.{has, insert}
 use Rattle.meaning.specs.Tables.{gather}
 

@@ -1,16 +1,15 @@
 -- States and the expressions that they stand for have the same hedges.
 use Prim.Native.Nat.{ℕ, _<_}
-use mathlib.Core.Bool.{Bool, true, _&&_}
+use mathlib.Core.Bool.{true, _&&_}
 use mathlib.Core.Path.{_≡_, sym, subst}
 use mathlib.Core.List.{List}
 use mathlib.Core.Logic.{_↔_}
 use lib.ListN.{length, getD}
 use Rattle.std.proofs.shelf.Tests.{and-parts, and-from}
-use Rattle.model.specs.Machine.{Derivative, derivatives-at}
+use Rattle.model.specs.Machine.{derivatives-at}
 use Rattle.theory.specs.Hedge.{Hedge, nothing, item}
-use Rattle.theory.specs.Language.{Expr, none, rule, In}
+use Rattle.theory.specs.Language.{Expr, none, In}
 use Rattle.theory.specs.Machine.{Machine, accepts}
-use Rattle.theory.specs.Inequality.{Member}
 use Rattle.theory.specs.Stands.{Stands}
 use Rattle.meaning.specs.Laws.{Simulation, Rule-simulation}
 use Rattle.meaning.proofs.Members.{any-of, any-from}

@@ -1,7 +1,7 @@
 -- The table of state sets tells which states have which hedge.
 use Prim.Native.Nat.{ℕ, zero, suc, _+_, _<_, _≤_}
 use native.Mathlib.Omega.{arith}
-use mathlib.Core.Bool.{Bool, true, false, _&&_}
+use mathlib.Core.Bool.{Bool, false, _&&_}
 use mathlib.Core.Path.{_≡_, refl, sym, ap, ap₂, fun-ext, _∙_}
 use mathlib.Core.List.{List, [], _∷_, _++_}
 use mathlib.Core.Logic.{⊎-elim}
@@ -13,12 +13,13 @@ use Rattle.model.specs.Blank.{blank-item}
 use Rattle.model.specs.Sets.{has}
 use Rattle.model.specs.Machine.{Derivative, nullable-at, derivatives-at, no-state}
 use Rattle.theory.specs.Hedge.{Hedge, nothing, item}
-use Rattle.theory.specs.Count.{some, any}
-use Rattle.theory.specs.Items.{hedges, spelling, from-item, spelled}
+use Rattle.theory.specs.Count.{any}
+use Rattle.theory.specs.Items.{spelling, from-item, spelled}
 use Rattle.theory.specs.Machine.{Machine, accepts}
-use Rattle.theory.specs.Inequality.{derivative, derivative-count, no-derivative}
-use Rattle.meaning.specs.Tables.{gather, nullable-set, allows, takes, set-at, item-set, tabling, state-sets, has-spelled, Table-law, Membership-law}
+use Rattle.theory.specs.Inequality.{no-derivative}
+use Rattle.meaning.specs.Tables.{gather, nullable-set, allows, takes, set-at, item-set, tabling, state-sets, has-spelled, Table-law, Membership-law, Rule-membership}
 use Rattle.meaning.proofs.Members.{some-any}
+use Rattle.meaning.proofs.Simulation.{rule-simulation}
 use Rattle.meaning.proofs.Sets.{gather-past, gather-below}
 
 -- a set has exactly the states that accept a hedge
@@ -94,6 +95,12 @@ table-law m items le k q =
 pub membership-law : Membership-law
 unfolding has-spelled
 membership-law m items le q = table-law m items le (length items) q
+
+pub rule-membership : Rule-membership
+rule-membership bodies rules m exprs st le items k lt =
+    let law : has-spelled m items k ≡ accepts m (spelled items) k = membership-law m items le k in
+    let sim = rule-simulation bodies rules m exprs st (spelled items) k lt in
+    ((λ e. sim .0 (sym law ∙ e)), (λ p. law ∙ sim .1 p))
 
 -- the table begins with the set of the empty hedge
 pub state-sets-none : (m : Machine) → state-sets m [] ≡ nullable-set m ∷ []

@@ -1,17 +1,20 @@
 -- Which states have the hedge of each item: a table of state sets, computed item by item.
-use Prim.Native.Nat.{ℕ, zero, suc, _≤_}
-use mathlib.Core.Bool.{Bool, cond, _&&_}
+use Prim.Native.Nat.{ℕ, zero, suc, _<_, _≤_}
+use mathlib.Core.Bool.{Bool, true, cond, _&&_}
 use mathlib.Core.Path.{_≡_}
+use mathlib.Core.Logic.{_↔_}
 use mathlib.Core.List.{List, [], _∷_, _++_}
 use lib.ListN.{length, getD}
 use Rattle.model.specs.declared.rows.Item.{Item}
 use Rattle.model.specs.Sets.{has, insert}
 use Rattle.model.specs.Machine.{nullable-at}
 use Rattle.theory.specs.Hedge.{nothing}
+use Rattle.theory.specs.Language.{Expr, rule, In}
 use Rattle.theory.specs.Count.{some}
 use Rattle.theory.specs.Items.{hedges, spelled}
 use Rattle.theory.specs.Machine.{Machine, accepts}
 use Rattle.theory.specs.Inequality.{derivative, derivative-count}
+use Rattle.theory.specs.Stands.{Stands}
 
 -- the set of the states below n that pass p
 abbrev pub gather : ℕ → (ℕ → Bool) → ℕ
@@ -64,3 +67,10 @@ Table-law = (m : Machine) (items : List Item) → length (m .states) ≤ 128 →
 abbrev pub Membership-law : Type 0
 Membership-law = (m : Machine) (items : List Item) → length (m .states) ≤ 128 → (q : ℕ) →
     has-spelled m items q ≡ accepts m (spelled items) q
+
+-- the membership test of a rule: its state has the hedge that items spell exactly when the rule has
+abbrev pub Rule-membership : Type 0
+Rule-membership = (bodies : ℕ → Expr) (rules : ℕ) (m : Machine) (exprs : List Expr) →
+    Stands bodies rules (m .states) exprs → length (m .states) ≤ 128 →
+    (items : List Item) (k : ℕ) → k < rules →
+    (has-spelled m items k ≡ true) ↔ In bodies (m .covers) (rule k) (spelled items)
