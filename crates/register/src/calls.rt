@@ -1,0 +1,127 @@
+//! The calls on a register.
+use crate::register::Register;
+use judge::fault::SheetFault;
+use judge::fault::SheetFromCall;
+use judge::rows::judge_excluded;
+use judge::rows::judge_included;
+use ledger::table::Settled;
+use member::has_hedge;
+use model::rows::Item;
+use model::rows::Row;
+use records::fault::CallFault;
+use records::read::blank;
+use records::read::counts;
+use records::read::read_hedge;
+use records::read::read_sheet;
+use records::sheet::Sheet;
+use records::sheet::Verdict;
+use search::answer::Answer;
+use search::answer::question;
+use writing::write_sheet;
+
+/// The answer of a membership test: whether the rule has the hedge, and how many items it has.
+#[derive(Clone, Copy)]
+pub struct Membership {
+    pub yes: bool,
+    pub records: usize,
+}
+
+/// How a verdict settles its pair.
+fn settles(verdict: Verdict) -> Settled {
+    match verdict {
+        Verdict::Included => Settled::Included,
+        Verdict::Excluded => Settled::Excluded,
+    }
+}
+
+impl Register<'_> {
+    /// Refuses a rule that the grammar does not have.
+    fn check_rule(&self, rule: usize) -> Result<(), CallFault> {
+        if rule < self.grammar.tables.bodies().len() {
+            Ok(())
+        } else {
+            Err(CallFault::Rule { line: 0 })
+        }
+    }
+
+    /// Refuses what a question may not be given.
+    fn check_question(&self, left: usize, right: usize, rows: usize, items: usize) -> Result<(), CallFault> {
+        self.check_rule(left)?;
+        self.check_rule(right)?;
+        counts(rows, items)
+    }
+
+    /// Enters the verdict of an answer, if it has one.
+    fn note(&mut self, left: usize, right: usize, answer: Answer) {
+        match answer {
+            Answer::Included { .. } => self.ledger.enter(left, right, Settled::Included),
+            Answer::Excluded { .. } => self.ledger.enter(left, right, Settled::Excluded),
+            Answer::Wide { .. } => {}
+            Answer::OutOfRows { .. } => {}
+        }
+    }
+
+    /// Whether every hedge of the rule `left` is one of the rule `right`.
+    pub fn question(&mut self, left: usize, right: usize, rows: &mut [Row], items: &mut [Item]) -> Result<Answer, CallFault> {
+        if let Err(fault) = self.check_question(left, right, rows.len(), items.len()) {
+            blank(rows, items);
+            return Err(fault);
+        }
+        let answer = question(&self.grammar.machine, &self.covers, left, right, rows, items, self.marks.as_mut_slice());
+        self.note(left, right, answer);
+        Ok(answer)
+    }
+
+    /// Judges what a sheet shows.
+    fn judge(&mut self, sheet: Sheet, rows: &[Row], items: &[Item]) -> Result<(), SheetFault> {
+        let machine = &self.grammar.machine;
+        match sheet.verdict {
+            Verdict::Included => {
+                let rules = self.grammar.tables.bodies().len();
+                judge_included(machine, &self.covers, &self.ledger, rules, sheet.left, sheet.right, &rows[0..sheet.records])
+            }
+            Verdict::Excluded => judge_excluded(machine, &self.covers, self.sets.as_mut_slice(), sheet.left, sheet.right, &items[0..sheet.records]),
+        }
+    }
+
+    /// Reads and judges a sheet, and enters it if it shows its claim.
+    pub fn sheet(&mut self, text: &[u8], rows: &mut [Row], items: &mut [Item]) -> Result<Sheet, SheetFault> {
+        let tables = &self.grammar.tables;
+        let sheet = read_sheet(text, tables.bodies().len(), self.grammar.machine.count(), tables.names(), rows, items)?;
+        if let Err(fault) = self.judge(sheet, rows, items) {
+            blank(rows, items);
+            return Err(fault);
+        }
+        self.ledger.enter(sheet.left, sheet.right, settles(sheet.verdict));
+        Ok(sheet)
+    }
+
+    /// Whether the rule's language has the hedge that a text spells.
+    pub fn member(&mut self, rule: usize, text: &[u8], rows: &mut [Row], items: &mut [Item]) -> Result<Membership, CallFault> {
+        if let Err(fault) = self.check_rule(rule) {
+            blank(rows, items);
+            return Err(fault);
+        }
+        let records = read_hedge(text, self.grammar.tables.names(), rows, items)?;
+        let yes = has_hedge(&self.grammar.machine, &self.covers, &items[0..records], self.sets.as_mut_slice(), rule);
+        Ok(Membership { yes: yes.unwrap_or(false), records })
+    }
+
+    /// Writes the sheet of these values into the output, and gives its length.
+    pub fn write(&self, sheet: Sheet, rows: &[Row], items: &[Item], out: &mut [u8]) -> Result<usize, CallFault> {
+        let tables = &self.grammar.tables;
+        write_sheet(sheet, tables.bodies().len(), self.grammar.machine.count(), tables.names(), rows, items, out)
+    }
+
+    /// How a pair is settled.
+    pub fn look_up(&self, left: usize, right: usize) -> Result<Settled, CallFault> {
+        self.check_rule(left)?;
+        self.check_rule(right)?;
+        Ok(self.ledger.look_up(left, right))
+    }
+
+    /// Makes every pair unsettled.
+    pub fn clear(&mut self) {
+        self.ledger.clear();
+    }
+}

@@ -1,0 +1,4 @@
+//! A register on one grammar and one name relation: questions, sheets, membership tests, writing,
+//! look-ups and clearings.
+pub mod calls;
+pub mod register;
