@@ -1,0 +1,2 @@
+mod Climb
+mod States

@@ -1,0 +1,4 @@
+pub mod Sets
+pub mod Blank
+pub mod Relation
+pub mod Machine

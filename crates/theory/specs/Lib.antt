@@ -1,0 +1,11 @@
+pub mod Hedge
+pub mod Language
+pub mod Derivative
+pub mod Tree
+pub mod Recursion
+pub mod Count
+pub mod Machine
+pub mod Items
+pub mod Inequality
+pub mod Meeting
+pub mod Stands
