@@ -52,14 +52,15 @@ climb zero names ok h t lt e =
 climb (suc n) names ok h t lt e =
     ⊎-elim
     (λ here. let same : h ≡ t = eqb-true h t here in
-        (subst (λ k. k < length names) (sym same) lt, ap (kind-of names) same))
+    (subst (λ k. k < length names) (sym same) lt, ap (kind-of names) same))
     (λ more. go (climb n names ok) (getD names t no-name .head) refl
-        (sym (as-up n names h (getD names t no-name .head)) ∙ more))
+    (sym (as-up n names h (getD names t no-name .head)) ∙ more))
     (or-cases _ _ e)
   where
     Climbs : Type 0
     Climbs = (h t : ℕ) → t < length names → above n names h t ≡ true →
         (h < length names) × (kind-of names h ≡ kind-of names t)
+
     go : Climbs → (o : Option ℕ) → getD names t no-name .head ≡ o → up n names h o ≡ true →
         (h < length names) × (kind-of names h ≡ kind-of names t)
     go rec None is no′ = elim (false≢true no′) [ ]
@@ -70,11 +71,11 @@ climb (suc n) names ok h t lt e =
         (found .0, found .1 ∙ lower .1)
 
 pub heads-lawful : (names : List Name) → Headed names → Lawful names (heads names)
-heads-lawful names ok = record
-  { itself = λ t lt. and-from _ _ (lt-ltb t (length names) lt) (above-here (length names) names t t refl)
-  ; named = λ h t e. let p = and-parts (ltb t (length names)) _ e in
+heads-lawful names ok = record {
+  itself = λ t lt. and-from _ _ (lt-ltb t (length names) lt) (above-here (length names) names t t refl);
+  named = λ h t e. let p = and-parts (ltb t (length names)) _ e in
       let lt = ltb-true t (length names) (p .0) in
-      (climb (length names) names ok h t lt (p .1) .0, lt)
-  ; own-kind = λ h t e. let p = and-parts (ltb t (length names)) _ e in
-      climb (length names) names ok h t (ltb-true t (length names) (p .0)) (p .1) .1
-  }
+      (climb (length names) names ok h t lt (p .1) .0, lt);
+  own-kind = λ h t e. let p = and-parts (ltb t (length names)) _ e in
+      climb (length names) names ok h t (ltb-true t (length names) (p .0)) (p .1) .1;
+}

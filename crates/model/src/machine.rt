@@ -31,7 +31,11 @@ impl Machine {
     pub fn is_nullable(&self, q: usize) -> bool
         ensures { λ r. ⌜ r ≡ nullable-at (states-of (now (self .entry))) q ⌝ }
     {
-        if q < self.states.len() { self.states[q].nullable } else { false }
+        if q < self.states.len() {
+            self.states[q].nullable
+        } else {
+            false
+        }
     }
 
     // The derivatives of the state q in order; none where there is no such state.

@@ -25,7 +25,10 @@ impl Row {
     pub fn blank() -> Row
         ensures { λ r. ⌜ r ≡ blank-row ⌝ }
     {
-        Row { left: 0, right: StateSet { bits: 0 } }
+        Row {
+            left: 0,
+            right: StateSet { bits: 0 },
+        }
     }
 }
 
@@ -34,6 +37,10 @@ impl Item {
     pub fn blank() -> Item
         ensures { λ r. ⌜ r ≡ blank-item ⌝ }
     {
-        Item { name: 0, child: 0, next: 0 }
+        Item {
+            name: 0,
+            child: 0,
+            next: 0,
+        }
     }
 }

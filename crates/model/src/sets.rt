@@ -28,7 +28,9 @@ impl StateSet {
         ensures { λ r. ⌜ r .bits ≡ insert (now (self .entry) .bits) q ⌝ }
     {
         if q < 128 {
-            StateSet { bits: self.bits | (1u128 << q) }
+            StateSet {
+                bits: self.bits | (1u128 << q),
+            }
         } else {
             *self
         }

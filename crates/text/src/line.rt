@@ -91,6 +91,13 @@ impl<'a> Line<'a> {
 }
 
 impl<'a> Fields<'a> {
+    /// The number of its line.
+    pub fn line(self) -> usize
+        ensures { λ r. ⌜ r ≡ self .entry .line ⌝ }
+    {
+        self.line
+    }
+
     /// Whether no field is left.
     pub fn is_done(self) -> bool
         ensures { λ r. ⌜ r ≡ none-left (fields-left (self .entry)) ⌝ }

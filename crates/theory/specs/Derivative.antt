@@ -34,8 +34,8 @@ pub data Der (bodies : ℕ → Expr) : Expr → ℕ → Expr → Expr → Type 0
   der-left : {a b : Expr} {h : ℕ} {c r : Expr} → Der bodies a h c r → Der bodies (union a b) h c r
   der-right : {a b : Expr} {h : ℕ} {c r : Expr} → Der bodies b h c r → Der bodies (union a b) h c r
   der-first : {a b : Expr} {h : ℕ} {c r s : Expr} → Der bodies a h c r → s ≡ join r b →
-    Der bodies (seq a b) h c s
+      Der bodies (seq a b) h c s
   der-second : {a b : Expr} {h : ℕ} {c r : Expr} → Null bodies a → Der bodies b h c r →
-    Der bodies (seq a b) h c r
+      Der bodies (seq a b) h c r
   der-star : {a : Expr} {h : ℕ} {c r s : Expr} → Der bodies a h c r → s ≡ join r (star a) →
-    Der bodies (star a) h c s
+      Der bodies (star a) h c s

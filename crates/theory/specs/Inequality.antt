@@ -92,18 +92,18 @@ pub record EitherOr : Type 0 where
 
 -- the either-or of the derivative (h, c, r) on the left, the pairs on the right and the subset k
 unfoldable pub either-or : Derivative → List Pair → ℕ → EitherOr
-either-or d ps k = record
-  { content = row (d .1) (contents ps k (length ps))
-  ; rest = row (d .2) (rests ps k (length ps))
-  }
+either-or d ps k = record {
+  content = row (d .1) (contents ps k (length ps));
+  rest = row (d .2) (rests ps k (length ps));
+}
 
 -- those of one name t and the derivative number i of the left: one for each subset of the pairs
 unfoldable pub of-derivative : Machine → Row → ℕ → ℕ → List EitherOr
 of-derivative m r t i =
     cond (m .covers (derivative m (r .left) i .0) t)
-        (each (2 ^ length (pairs m t (r .right .bits)))
-            (λ k. either-or (derivative m (r .left) i) (pairs m t (r .right .bits)) k ∷ []))
-        []
+    (each (2 ^ length (pairs m t (r .right .bits)))
+    (λ k. either-or (derivative m (r .left) i) (pairs m t (r .right .bits)) k ∷ []))
+    []
 
 -- those of one name, by the derivatives of the left in order
 unfoldable pub of-name : Machine → Row → ℕ → List EitherOr
@@ -123,13 +123,13 @@ pub data Member {A : Type 0} (x : A) : List A → Type 0 where
 pub data Reachable (m : Machine) (root : Row) : Row → Type 0 where
   at-root : Reachable m root root
   by-content : {r : Row} {e : EitherOr} → Reachable m root r → wide m r ≡ false →
-    Member e (either-ors m r) → Reachable m root (e .content)
+      Member e (either-ors m r) → Reachable m root (e .content)
   by-rest : {r : Row} {e : EitherOr} → Reachable m root r → wide m r ≡ false →
-    Member e (either-ors m r) → Reachable m root (e .rest)
+      Member e (either-ors m r) → Reachable m root (e .rest)
 
 -- Refuted: the least set with each inconsistent inequality and each that has an either-or both of
 -- whose sides are refuted.
 pub data Refuted (m : Machine) : Row → Type 0 where
   by-empty : {r : Row} → inconsistent m r ≡ true → Refuted m r
   by-either-or : {r : Row} {e : EitherOr} → Member e (either-ors m r) →
-    Refuted m (e .content) → Refuted m (e .rest) → Refuted m r
+      Refuted m (e .content) → Refuted m (e .rest) → Refuted m r

@@ -23,12 +23,12 @@ pub data In (bodies : ℕ → Expr) (covers : ℕ → ℕ → Bool) : Expr → H
   in-empty : In bodies covers empty nothing
   in-simple : {b t : ℕ} → covers b t ≡ true → In bodies covers (simple b) (item t nothing nothing)
   in-element : {e t : ℕ} {r : Expr} {v : Hedge} → covers e t ≡ true → In bodies covers r v →
-    In bodies covers (element e r) (item t v nothing)
+      In bodies covers (element e r) (item t v nothing)
   in-rule : {k : ℕ} {w : Hedge} → In bodies covers (bodies k) w → In bodies covers (rule k) w
   in-left : {a b : Expr} {w : Hedge} → In bodies covers a w → In bodies covers (union a b) w
   in-right : {a b : Expr} {w : Hedge} → In bodies covers b w → In bodies covers (union a b) w
   in-seq : {a b : Expr} {u v w : Hedge} → Follows u v w → In bodies covers a u →
-    In bodies covers b v → In bodies covers (seq a b) w
+      In bodies covers b v → In bodies covers (seq a b) w
   in-none-of : {a : Expr} → In bodies covers (star a) nothing
   in-more-of : {a : Expr} {u v w : Hedge} → Follows u v w → In bodies covers a u →
-    In bodies covers (star a) v → In bodies covers (star a) w
+      In bodies covers (star a) v → In bodies covers (star a) w

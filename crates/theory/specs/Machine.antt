@@ -19,4 +19,4 @@ abbrev pub accepts : Machine → Hedge → ℕ → Bool
 accepts m nothing q = nullable-at (m .states) q
 accepts m (item t v w) q =
     any (λ (d : Derivative). m .covers (d .0) t && (accepts m v (d .1) && accepts m w (d .2)))
-        (derivatives-at (m .states) q)
+    (derivatives-at (m .states) q)

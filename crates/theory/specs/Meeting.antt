@@ -41,15 +41,15 @@ widened m rows taken = entered same-row rows (sides m (getD rows taken blank-row
 abbrev pub meet-on : Machine → ℕ → ℕ → ℕ → List Row → Met
 meet-on m limit zero taken rows = record { end = all; rows = rows }
 meet-on m limit (suc steps) taken rows =
-    elim (leb (length rows) taken)
-    [ true ↦ record { end = all; rows = rows }
-    | false ↦ elim (wide m (getD rows taken blank-row))
-        [ true ↦ record { end = wide-row; rows = rows }
-        | false ↦ elim (ltb limit (length (widened m rows taken)))
-            [ true ↦ record { end = out-of-rows; rows = take limit (widened m rows taken) }
-            | false ↦ meet-on m limit steps (taken + 1) (widened m rows taken)
-            ]
+    elim (leb (length rows) taken) [
+      | true ↦ record { end = all; rows = rows }
+      | false ↦ elim (wide m (getD rows taken blank-row)) [
+        | true ↦ record { end = wide-row; rows = rows }
+        | false ↦ elim (ltb limit (length (widened m rows taken))) [
+          | true ↦ record { end = out-of-rows; rows = take limit (widened m rows taken) }
+          | false ↦ meet-on m limit steps (taken + 1) (widened m rows taken)
         ]
+      ]
     ]
 
 -- the meeting from a root within `limit` rows

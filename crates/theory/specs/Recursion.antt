@@ -15,9 +15,9 @@ pub data Mentions (bodies : ℕ → Expr) : Expr → ℕ → Bool → Bool → T
   of-right : {a b : Expr} {k : ℕ} {s g : Bool} → Mentions bodies b k s g → Mentions bodies (union a b) k s g
   of-first : {a b : Expr} {k : ℕ} {s g : Bool} → Mentions bodies a k s g → Mentions bodies (seq a b) k false g
   of-second : {a b : Expr} {k : ℕ} {s g : Bool} → Null bodies a → Mentions bodies b k s g →
-    Mentions bodies (seq a b) k s g
+      Mentions bodies (seq a b) k s g
   of-guarded : {a b : Expr} {k : ℕ} {s g : Bool} → (Null bodies a → ⊥) → Mentions bodies b k s g →
-    Mentions bodies (seq a b) k s true
+      Mentions bodies (seq a b) k s true
   of-star : {a : Expr} {k : ℕ} {s g : Bool} → Mentions bodies a k s g → Mentions bodies (star a) k false g
 
 -- Rule k is lawful: outside brackets it mentions rules below k, and itself in last place. Each way

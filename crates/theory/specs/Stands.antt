@@ -16,15 +16,15 @@ pub record Stands (bodies : ℕ → Expr) (rules : ℕ) (states : List Plain) (e
   pub count : length exprs ≡ length states
   pub rule-states : (k : ℕ) → k < rules → (k < length states) × (getD exprs k none ≡ rule k)
   pub distinct : (p q : ℕ) → p < length states → q < length states →
-    getD exprs p none ≡ getD exprs q none → p ≡ q
+      getD exprs p none ≡ getD exprs q none → p ≡ q
   pub null-sound : (q : ℕ) → q < length states → nullable-at states q ≡ true →
-    Null bodies (getD exprs q none)
+      Null bodies (getD exprs q none)
   pub null-complete : (q : ℕ) → q < length states → Null bodies (getD exprs q none) →
-    nullable-at states q ≡ true
+      nullable-at states q ≡ true
   pub der-sound : (q : ℕ) (d : Derivative) → q < length states → Member d (derivatives-at states q) →
-    (d .1 < length states) × (d .2 < length states) ×
-    Der bodies (getD exprs q none) (d .0) (getD exprs (d .1) none) (getD exprs (d .2) none)
+      (d .1 < length states) × (d .2 < length states) ×
+      Der bodies (getD exprs q none) (d .0) (getD exprs (d .1) none) (getD exprs (d .2) none)
   pub der-complete : (q h : ℕ) (c r : Expr) → q < length states →
-    Der bodies (getD exprs q none) h c r →
-    (d : Derivative) × Member d (derivatives-at states q) × (d .0 ≡ h) ×
-    (getD exprs (d .1) none ≡ c) × (getD exprs (d .2) none ≡ r)
+      Der bodies (getD exprs q none) h c r →
+      (d : Derivative) × Member d (derivatives-at states q) × (d .0 ≡ h) ×
+      (getD exprs (d .1) none ≡ c) × (getD exprs (d .2) none ≡ r)

@@ -22,11 +22,11 @@ impl<'a> Reader<'a> {
         }
     }
 
-    /// How many lines it has given.
-    pub fn count(&self) -> usize
-        ensures { λ r. ⌜ r ≡ now (self .entry) .line ⌝ }
+    /// The number that the next line has, or would have where none is left.
+    pub fn next_number(&self) -> usize
+        ensures { λ r. ⌜ r ≡ now (self .entry) .line + 1 ⌝ }
     {
-        self.line
+        self.line + 1
     }
 
     /// The next line with its number, if one is left.

@@ -10,9 +10,9 @@ pub returns-in-Some : need.returns-in-Some
 returns-in-Some t c =
     c .climbs .ensures
     ∙ sym (above-step (c .args .steps) (c .args .names .now) (c .args .h) (c .args .t) (Some (c .in-Some .u))
-        (c .if-h-t .left) (c .if-steps-eq0 .left) (sym (c .in-Some .ensures tt)))
+    (c .if-h-t .left) (c .if-steps-eq0 .left) (sym (c .in-Some .ensures tt)))
 
 pub returns-in-None : need.returns-in-None
 returns-in-None t c =
     sym (above-step (c .args .steps) (c .args .names .now) (c .args .h) (c .args .t) None
-        (c .if-h-t .left) (c .if-steps-eq0 .left) (sym (c .in-None .ensures tt)))
+    (c .if-h-t .left) (c .if-steps-eq0 .left) (sym (c .in-None .ensures tt)))
