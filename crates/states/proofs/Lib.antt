@@ -1,1 +1,2 @@
 mod Books
+mod Ranks
