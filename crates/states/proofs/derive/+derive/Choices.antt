@@ -1,0 +1,5 @@
+use Rattle.states.specs.Nodes.{rank}
+use Rattle.states.proofs.derive.+derive.Given as given
+
+abbrev pub μ-derive : given.MeasureT-derive
+μ-derive l = rank (l .rule) (l .node)
