@@ -32,7 +32,7 @@ fn build_error(error: BuildError, lines: &[usize]) -> LoadError {
             LoadError::Fault(GrammarFault::Recursion { line })
         }
         BuildError::TooLarge => LoadError::Fault(GrammarFault::Size),
-        BuildError::Memory => LoadError::Memory,
+        BuildError::NoMemory => LoadError::Memory,
     }
 }
 
