@@ -1,4 +1,4 @@
-//! Calls with what they are given, and replies with what they leave.
+//! Calls with what they are given, and entries with what they answered and left.
 use judge::fault::SheetFault;
 use ledger::table::Settled;
 use model::rows::Item;
@@ -21,12 +21,13 @@ pub enum Call<'a> {
 }
 
 /// What a call answers.
-#[derive(Drop)]
+#[derive(Clone, Copy)]
 pub enum Reply {
     Answered(Answer),
     Accepted(Sheet),
     Tested(Membership),
-    Wrote(Vec<u8>),
+    /// The length of the sheet that was written.
+    Wrote(usize),
     /// There was no sheet to write.
     Nothing,
     LookedUp(Settled),
@@ -35,12 +36,11 @@ pub enum Reply {
     Declined(SheetFault),
 }
 
-/// A reply with the records that the call left in rows or items, and how many of each lie beyond
-/// them; no numbers where the call was lent none, or in numbers that it refuses.
+/// What a call answered, and the rows, the items and the output that it was lent, as it left them.
 #[derive(Drop)]
 pub struct Entry {
     pub reply: Reply,
     pub rows: Vec<Row>,
     pub items: Vec<Item>,
-    pub blank: Option<(usize, usize)>,
+    pub output: Vec<u8>,
 }
