@@ -1,0 +1,4 @@
+pub mod Bits
+pub mod Lists
+pub mod Sides
+pub mod Subsets
