@@ -6,7 +6,9 @@ ghost use mathlib.Core.Bool.{Bool};
 ghost use lib.ListN.{length, take, drop};
 ghost use denote.Ref.{name};
 ghost use Rattle.theory.specs.Count.{enter};
+ghost use mathlib.Core.List.{[], _∷_};
 ghost use Rattle.book.specs.Place.{place, numbered};
+ghost use Rattle.book.specs.Feeding.{holds, room, Fed, Kept};
 
 // A kind of record that can tell whether two are the same.
 pub trait Same {
@@ -67,5 +69,13 @@ impl<T: Same + Copy> Book<'_, T> {
             self.count = i + 1;
         }
         Some(i)
+    }
+    // Enters x, and tells whether it is in the book now.
+    pub fn put(&mut self, x: T) -> bool
+        ensures fed { λ r. ⌜ Fed (T·Same .same) (room (now (self .entry))) (holds (now (self .entry))) (holds (now (self .exit))) (x ∷ []) r ⌝ }
+        ensures kept { λ r. ⌜ Kept (now (self .entry)) (now (self .exit)) ⌝ }
+        ensures lent { λ r. ⌜ name (now (self .exit) .records) ≡ name (now (self .entry) .records) ⌝ }
+    {
+        self.enter(x).is_some()
     }
 }
