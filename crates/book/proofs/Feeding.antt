@@ -1,5 +1,5 @@
 -- Entering list after list.
-use Prim.Native.Nat.{ℕ, zero, suc, _+_, _<_, _≤_}
+use Prim.Native.Nat.{ℕ, zero, suc, _+_, _<_, _≤_, min}
 use native.Mathlib.Numerals.{add-one}
 use native.Mathlib.Omega.{arith}
 use mathlib.Core.Path.{_≡_, refl, sym, ap, subst, _∙_}
@@ -8,11 +8,11 @@ use mathlib.Core.Logic.{⊎-elim}
 use mathlib.Core.List.{List, [], _∷_, _++_}
 use lib.ListN.{length, take}
 use lib.Dec.{leb}
-use Rattle.std.proofs.shelf.Tests.{le-leb, lt-leb, leb-true, leb-false, cases-bool, cases-eq}
-use Rattle.std.proofs.shelf.Lists.{take-all, append-nil, append-assoc, length-append, take-append-le}
+use Rattle.std.proofs.shelf.Tests.{cond-true, cond-false, le-leb, lt-leb, leb-true, leb-false, cases-bool, cases-eq, cases-lt}
+use Rattle.std.proofs.shelf.Lists.{take-all, append-nil, append-assoc, length-append, take-append-le, length-take}
 use Rattle.theory.specs.Count.{any, each, enter, entered}
 use Rattle.book.specs.declared.Book.{Book}
-use Rattle.book.specs.Feeding.{room, Fed, Kept}
+use Rattle.book.specs.Feeding.{holds, room, Fed, Kept, Fills}
 
 -- entering one list and then another is entering both in a row
 pub entered-append : {A : Type 0} (same : A → A → Bool) (book xs ys : List A) →
@@ -115,3 +115,96 @@ kept-same b = record { len = refl; within = λ h. h }
 
 pub kept-more : {A : Type 0} (a b c : Book A) → Kept a b → Kept b c → Kept a c
 kept-more a b c x y = record { len = y .len ∙ x .len; within = λ h. y .within (x .within h) }
+
+-- a book never holds more than it has room for
+pub holds-room : {A : Type 0} (b : Book A) → length (holds b) ≤ room b
+holds-room b = let e = length-take (b .count) (b .records .now) in omega arith
+
+module _ {A : Type 0} (same : A → A → Bool) where
+
+  pub fills-none : (b : Book A) → Fills same b b [] true
+  fills-none b = record { fed = fed-none same (room b) (holds b) (holds-room b); kept = kept-same b }
+
+  pub fills-as : (b a : Book A) (xs ys : List A) (answer : Bool) → xs ≡ ys → Fills same b a xs answer → Fills same b a ys answer
+  fills-as b a xs ys answer e = subst (λ l. Fills same b a l answer) e
+
+  pub fills-says : (b a : Book A) (xs : List A) (x y : Bool) → x ≡ y → Fills same b a xs x → Fills same b a xs y
+  fills-says b a xs x y e = subst (λ v. Fills same b a xs v) e
+
+  -- under a condition
+  pub fills-when : (b a : Book A) (test : Bool) (xs : List A) (answer : Bool) → test ≡ true →
+      Fills same b a xs answer → Fills same b a (cond test xs []) answer
+  fills-when b a test xs answer is = fills-as b a xs (cond test xs []) answer (sym (cond-true test xs [] is))
+
+  pub fills-unless : (b : Book A) (test : Bool) (xs : List A) → test ≡ false → Fills same b b (cond test xs []) true
+  fills-unless b test xs is = fills-as b b [] (cond test xs []) true (sym (cond-false test xs [] is)) (fills-none b)
+
+  -- one list after another
+  pub fills-more : (b m a : Book A) (xs ys : List A) (answer : Bool) → Fills same b m xs true → Fills same m a ys answer →
+      Fills same b a (xs ++ ys) answer
+  fills-more b m a xs ys answer first then = record
+    { fed = fed-more (first .fed) (fed-room (first .kept .len) (then .fed))
+    ; kept = kept-more b m a (first .kept) (then .kept)
+    }
+
+  pub fills-full : (b m : Book A) (xs ys : List A) → Fills same b m xs false → Fills same b m (xs ++ ys) false
+  fills-full b m xs ys first = record { fed = fed-full ys (first .fed); kept = first .kept }
+
+  -- the turns of a loop that enters f 0, f 1 and so on
+  pub fills-turn : (b m a : Book A) (f : ℕ → List A) (i : ℕ) → Fills same b m (each i f) true → Fills same m a (f i) true →
+      Fills same b a (each (i + 1) f) true
+  fills-turn b m a f i first then = record
+    { fed = fed-turn f i (first .fed) (fed-room (first .kept .len) (then .fed))
+    ; kept = kept-more b m a (first .kept) (then .kept)
+    }
+
+  pub fills-stop : (b m a : Book A) (f : ℕ → List A) (i n : ℕ) → i < n → Fills same b m (each i f) true →
+      Fills same m a (f i) false → Fills same b a (each n f) false
+  fills-stop b m a f i n lt first then = record
+    { fed = fed-stop f i n lt (first .fed) (fed-room (first .kept .len) (then .fed))
+    ; kept = kept-more b m a (first .kept) (then .kept)
+    }
+
+  pub fills-end : (b a : Book A) (f : ℕ → List A) (i n : ℕ) → i ≤ n → n ≤ i → Fills same b a (each i f) true →
+      Fills same b a (each n f) true
+  fills-end b a f i n le ge = let e : i ≡ n = omega arith in fills-as b a (each i f) (each n f) true (ap (λ k. each k f) e)
+
+take-within : {A : Type 0} (n k : ℕ) (l : List A) → k ≡ min n (length l) → take k l ≡ take n l
+take-within n k l e = ⊎-elim
+    (λ (le : n < length l). let same : k ≡ n = omega arith in ap (λ j. take j l) same)
+    (λ ge. let all : k ≡ length l = omega arith in
+        let long : length l ≤ k = omega arith in
+        take-all k l long ∙ sym (take-all n l ge))
+    (cases-lt n (length l))
+
+-- What stands in the lent records once a list was entered in an empty book: the distinct records of
+-- the list, as many as have room.
+pub fed-written : {A : Type 0} (same : A → A → Bool) (n : ℕ) (records list : List A) (answer : Bool) →
+    Fed same (length records) [] (take n records) list answer →
+    take (length (entered same [] list)) records ≡ take (length records) (entered same [] list)
+fed-written {A} same n records list answer fed = ⊎-elim
+    (λ (over : length records < length whole).
+        let e = ap length (fed .held) in
+        let a = length-take n records in
+        let b = length-take (length records) whole in
+        let le : length records ≤ length whole = omega arith in
+        let at : length records ≤ n = omega arith in
+        take-all (length whole) records le ∙ sym (take-all n records at) ∙ fed .held)
+    (λ (room : length whole ≤ length records).
+        let e = ap length (fed .held ∙ take-all (length records) whole room) in
+        let a = length-take n records in
+        let k : length whole ≡ min n (length records) = omega arith in
+        take-within n (length whole) records k ∙ fed .held)
+    (cases-lt (length records) (length whole))
+  where
+    whole : List A
+    whole = entered same [] list
+
+-- the number of records in an empty book that all of a list had room in
+pub fed-count : {A : Type 0} (same : A → A → Bool) (n : ℕ) (records list : List A) →
+    Fed same (length records) [] (take n records) list true → n ≤ length records → n ≡ length (entered same [] list)
+fed-count same n records list fed le =
+    let room = leb-true (length (entered same [] list)) (length records) (sym (fed .fits)) in
+    let e = ap length (fed .held ∙ take-all (length records) (entered same [] list) room) in
+    let a = length-take n records in
+    omega arith

@@ -26,3 +26,8 @@ pub record Fed {A : Type 0} (same : A → A → Bool) (limit : ℕ) (before afte
 pub record Kept {A : Type 0} (before after : Book A) : Type 0 where
   pub len : room after ≡ room before
   pub within : before .count ≤ room before → after .count ≤ room after
+
+-- A list was entered in a book, within its room.
+pub record Fills {A : Type 0} (same : A → A → Bool) (before after : Book A) (list : List A) (answer : Bool) : Type 0 where
+  pub fed : Fed same (room before) (holds before) (holds after) list answer
+  pub kept : Kept before after

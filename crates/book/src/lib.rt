@@ -8,7 +8,9 @@ ghost use denote.Ref.{name};
 ghost use Rattle.theory.specs.Count.{enter};
 ghost use mathlib.Core.List.{[], _∷_};
 ghost use Rattle.book.specs.Place.{place, numbered};
-ghost use Rattle.book.specs.Feeding.{holds, room, Fed, Kept};
+ghost use Rattle.book.specs.Feeding.{Fills};
+
+pub mod kinds;
 
 // A kind of record that can tell whether two are the same.
 pub trait Same {
@@ -72,8 +74,7 @@ impl<T: Same + Copy> Book<'_, T> {
     }
     // Enters x, and tells whether it is in the book now.
     pub fn put(&mut self, x: T) -> bool
-        ensures fed { λ r. ⌜ Fed (T·Same .same) (room (now (self .entry))) (holds (now (self .entry))) (holds (now (self .exit))) (x ∷ []) r ⌝ }
-        ensures kept { λ r. ⌜ Kept (now (self .entry)) (now (self .exit)) ⌝ }
+        ensures fills { λ r. ⌜ Fills (T·Same .same) (now (self .entry)) (now (self .exit)) (x ∷ []) r ⌝ }
         ensures lent { λ r. ⌜ name (now (self .exit) .records) ≡ name (now (self .entry) .records) ⌝ }
     {
         self.enter(x).is_some()
