@@ -35,9 +35,9 @@ single : (q p : ℕ) → eqb ((2 ^ q / 2 ^ p) % 2) 1 ≡ eqb p q
 single q p = ⊎-elim
     (λ (e : p ≡ q). ap (λ n. eqb n 1) (ap (λ k. (2 ^ q / 2 ^ k) % 2) e ∙ itself q) ∙ sym (eq-eqb p q e))
     (λ (ne : p ≡ q → ⊥). ⊎-elim
-        (λ (lt : p < q). ap (λ n. eqb n 1) (below q p lt) ∙ sym (ne-eqb p q ne))
-        (λ (le : q ≤ p). ap (λ n. eqb n 1) (above q p (omega arith)) ∙ sym (ne-eqb p q ne))
-        (cases-lt p q))
+    (λ (lt : p < q). ap (λ n. eqb n 1) (below q p lt) ∙ sym (ne-eqb p q ne))
+    (λ (le : q ≤ p). ap (λ n. eqb n 1) (above q p (omega arith)) ∙ sym (ne-eqb p q ne))
+    (cases-lt p q))
     (cases-eq p q)
 
 -- a digit that is the greater of two

@@ -170,8 +170,8 @@ module _ {A : Type 0} (same : A → A → Bool) (tells : Tells same) where
   entered-from book [] y p = inl p
   entered-from book (x ∷ xs) y p = ⊎-elim
       (λ (old : Member y (enter same book x)). ⊎-elim inl
-          (λ (e : y ≡ x). inr (subst (λ z. Member y (z ∷ xs)) e here))
-          (enter-from book x y old))
+      (λ (e : y ≡ x). inr (subst (λ z. Member y (z ∷ xs)) e here))
+      (enter-from book x y old))
       (λ (new : Member y xs). inr (there new))
       (entered-from (enter same book x) xs y p)
 
@@ -184,9 +184,10 @@ module _ {A : Type 0} (same : A → A → Bool) (tells : Tells same) where
   distinct-push : (xs : List A) (x : A) → Distinct same xs → any (same x) xs ≡ false → Distinct same (xs ++ x ∷ [])
   distinct-push [] x d e = (refl, tt)
   distinct-push (y ∷ xs) x d e =
-      let parts = or-parts (same x y) (any (same x) xs) e in
-      (any-append (same y) xs (x ∷ []) (d .0) (or-from _ false (apart tells x y (parts .0)) refl)
-      , distinct-push xs x (d .1) (parts .1))
+      let parts = or-parts (same x y) (any (same x) xs) e in (
+        any-append (same y) xs (x ∷ []) (d .0) (or-from _ false (apart tells x y (parts .0)) refl),
+        distinct-push xs x (d .1) (parts .1),
+      )
 
   -- a book has no repeats
   pub entered-distinct : (book xs : List A) → Distinct same book → Distinct same (entered same book xs)

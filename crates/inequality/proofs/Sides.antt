@@ -34,8 +34,10 @@ contents-found ps k (suc n) q small e = go (contents-found ps k n q (λ i lt. sm
   where
     Found : ℕ → Type 0
     Found n = (i : ℕ) × (i < n) × (bit k i ≡ true) × (content-of ps i ≡ q)
+
     more : Found n → Found (suc n)
     more at = (at .0, omega (arith, at .1), at .2, at .3)
+
     go : (has (contents ps k n) q ≡ true → Found n) → (b : Bool) → bit k n ≡ b →
         has (cond b (insert (contents ps k n) (content-of ps n)) (contents ps k n)) q ≡ true → Found (suc n)
     go rec false is e = more (rec e)
@@ -52,6 +54,7 @@ contents-from ps k (suc n) i small lt is =
   where
     q : ℕ
     q = content-of ps i
+
     go : (i < n → bit k i ≡ true → has (contents ps k n) q ≡ true) → (b : Bool) → bit k n ≡ b →
         (i ≡ n) ⊎ (i ≡ n → ⊥) →
         has (cond b (insert (contents ps k n) (content-of ps n)) (contents ps k n)) q ≡ true
@@ -70,8 +73,10 @@ rests-found ps k (suc n) q small e = go (rests-found ps k n q (λ i lt. small i 
   where
     Found : ℕ → Type 0
     Found n = (i : ℕ) × (i < n) × (bit k i ≡ false) × (rest-of ps i ≡ q)
+
     more : Found n → Found (suc n)
     more at = (at .0, omega (arith, at .1), at .2, at .3)
+
     go : (has (rests ps k n) q ≡ true → Found n) → (b : Bool) → bit k n ≡ b →
         has (cond b (rests ps k n) (insert (rests ps k n) (rest-of ps n))) q ≡ true → Found (suc n)
     go rec true is e = more (rec e)
@@ -88,6 +93,7 @@ rests-from ps k (suc n) i small lt is =
   where
     q : ℕ
     q = rest-of ps i
+
     go : (i < n → bit k i ≡ false → has (rests ps k n) q ≡ true) → (b : Bool) → bit k n ≡ b →
         (i ≡ n) ⊎ (i ≡ n → ⊥) →
         has (cond b (rests ps k n) (insert (rests ps k n) (rest-of ps n))) q ≡ true
@@ -100,11 +106,11 @@ rests-from ps k (suc n) i small lt is =
 
 -- the test on pairs tells equal pairs
 pub tells-pair : Tells same-pair
-tells-pair = record
-  { equal = λ a b e. let p = and-parts (eqb (a .0) (b .0)) _ e in
-      (λ i. (eqb-true (a .0) (b .0) (p .0) i, eqb-true (a .1) (b .1) (p .1) i))
-  ; itself = λ a. and-from _ _ (eq-eqb (a .0) (a .0) refl) (eq-eqb (a .1) (a .1) refl)
-  }
+tells-pair = record {
+  equal = λ a b e. let p = and-parts (eqb (a .0) (b .0)) _ e in
+      (λ i. (eqb-true (a .0) (b .0) (p .0) i, eqb-true (a .1) (b .1) (p .1) i));
+  itself = λ a. and-from _ _ (eq-eqb (a .0) (a .0) refl) (eq-eqb (a .1) (a .1) refl);
+}
 
 -- The pairs under a name t of a set s are exactly the contents and rests of the derivatives of its
 -- states whose label covers t.
@@ -114,11 +120,11 @@ pub pair-found : (m : Machine) (t s : ℕ) (p : Pair) → Member p (pairs m t s)
 unfolding pairs all-pairs pairs-of
 pair-found m t s p mem =
     ⊎-elim (λ none. elim none [ ]) (λ listed.
-      let state = each-member (length (m .states)) _ listed in
-      let at = when-member (has s (state .0)) _ (state .2) in
-      let one = each-member (derivative-count m (state .0)) _ (at .1) in
-      let covered = when-member (m .covers (derivative m (state .0) (one .0) .0) t) _ (one .2) in
-      (state .0, one .0, state .1, at .0, one .1, covered .0, member-one (covered .1)))
+    let state = each-member (length (m .states)) _ listed in
+    let at = when-member (has s (state .0)) _ (state .2) in
+    let one = each-member (derivative-count m (state .0)) _ (at .1) in
+    let covered = when-member (m .covers (derivative m (state .0) (one .0) .0) t) _ (one .2) in
+    (state .0, one .0, state .1, at .0, one .1, covered .0, member-one (covered .1)))
     (entered-from same-pair tells-pair [] (all-pairs m t s) p mem)
 
 pub pair-from : (m : Machine) (t s q i : ℕ) → q < length (m .states) → has s q ≡ true → i < derivative-count m q →
@@ -126,8 +132,8 @@ pub pair-from : (m : Machine) (t s q i : ℕ) → q < length (m .states) → has
 unfolding pairs all-pairs pairs-of
 pair-from m t s q i lq in-s li covered =
     entered-new same-pair tells-pair [] (all-pairs m t s)
-      (member-each (length (m .states)) _ q lq (member-when (has s q) (pairs-of m t q) in-s
-        (member-each (derivative-count m q) _ i li (member-when (m .covers (derivative m q i .0) t) _ covered here))))
+    (member-each (length (m .states)) _ q lq (member-when (has s q) (pairs-of m t q) in-s
+    (member-each (derivative-count m q) _ i li (member-when (m .covers (derivative m q i .0) t) _ covered here))))
 
 -- The either-ors of an inequality are those of each name, each derivative of the left whose label
 -- covers it, and each subset of the pairs.
@@ -149,5 +155,5 @@ pub either-or-from : (m : Machine) (r : Row) (t i k : ℕ) → t < m .names → 
 unfolding either-ors of-name of-derivative
 either-or-from m r t i k lt li lk covered =
     member-each (m .names) _ t lt (member-each (derivative-count m (r .left)) _ i li
-      (member-when (m .covers (derivative m (r .left) i .0) t) _ covered
-        (member-each (2 ^ length (pairs m t (r .right .bits))) _ k lk here)))
+    (member-when (m .covers (derivative m (r .left) i .0) t) _ covered
+    (member-each (2 ^ length (pairs m t (r .right .bits))) _ k lk here)))
