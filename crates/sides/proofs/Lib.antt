@@ -1,1 +1,9 @@
+<<<<<<< HEAD
 mod Table
+=======
+pub mod Table
+pub mod Some
+pub mod Subset
+pub mod Crowded
+pub mod Sided
+>>>>>>> search

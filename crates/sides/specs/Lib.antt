@@ -1,1 +1,6 @@
 pub mod View
+<<<<<<< HEAD
+=======
+pub mod Steps
+pub mod Took
+>>>>>>> search

@@ -1,0 +1,8 @@
+use Prim.Native.Nat.{ℕ}
+use mathlib.Core.Path.{ap}
+use Rattle.theory.specs.Inequality.{row, either-or}
+use Rattle.sides.proofs.either.rest_side.Needs as need
+
+pub returns : need.returns
+unfolding either-or
+returns c = ap (λ (s : ℕ). row (c .args .derivative .2) s) (c .rests-of .ensures)
