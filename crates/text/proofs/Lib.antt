@@ -1,0 +1,3 @@
+-- Lemmas of the text crate.
+mod Cuts
+mod Decimals
