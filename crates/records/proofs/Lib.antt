@@ -1,1 +1,3 @@
 -- Lemmas of the records crate.
+pub mod Chained
+pub mod Kept
