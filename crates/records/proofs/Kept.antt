@@ -310,22 +310,47 @@ good-place L names p (a-row r) n e g = omega (arith, g .1)
 good-place L names p (an-item i) n e g = omega (arith, g .1)
 good-place L names p the-end n e g = tt
 
--- what every line keeps, a text keeps
+-- what every line keeps, a text keeps, and it ends at its end line
 pub run-keeps : (L : Limits) (names : List Name) (P : Found → Type 0) →
     ((f : Found) (s : Step) → P f → Good L names (f .at) s → P (entered f s)) →
-    (ls : List (List ℕ)) (f : Found) (n : ℕ) → P f → made (run L names f n ls) P
-run-keeps L names P step [] f n h = last (f .at .stage)
+    (ls : List (List ℕ)) (f : Found) (n : ℕ) → P f → made (run L names f n ls) (λ g. P g × (g .at .stage ≡ Ended))
+run-keeps L names P step [] f n h = last (f .at .stage) refl
   where
-    last : (s : Stage) → made (finished (n + 1) f s) P
-    last Sheet = tt
-    last Hedge = tt
-    last Pair = tt
-    last Rows = tt
-    last Items = tt
-    last Ended = h
+    last : (s : Stage) → f .at .stage ≡ s → made (finished (n + 1) f s) (λ g. P g × (g .at .stage ≡ Ended))
+    last Sheet e = tt
+    last Hedge e = tt
+    last Pair e = tt
+    last Rows e = tt
+    last Items e = tt
+    last Ended e = (h, e)
 run-keeps L names P step (l ∷ ls) f n h =
-    made-then (judged L names (f .at) (n + 1) l) _ P λ s e.
+    made-then (judged L names (f .at) (n + 1) l) _ (λ g. P g × (g .at .stage ≡ Ended)) λ s e.
     run-keeps L names P step ls (entered f s) (n + 1) (step f s h (made-is _ _ s e (judged-good L names (f .at) (n + 1) l)))
+
+-- after its pair line a sheet has a pair of rules
+abbrev pub Has-pair : ℕ → Progress → Stage → Type 0
+Has-pair rules p Sheet = Unit {0}
+Has-pair rules p Hedge = ⊥
+Has-pair rules p Pair = Unit {0}
+Has-pair rules p Rows = (p .left < rules) × (p .right < rules)
+Has-pair rules p Items = (p .left < rules) × (p .right < rules)
+Has-pair rules p Ended = (p .left < rules) × (p .right < rules)
+
+pub pair-step : (L : Limits) (names : List Name) (f : Found) (s : Step) → Has-pair (L .rules) (f .at) (f .at .stage) → Good L names (f .at) s →
+    Has-pair (L .rules) (advanced (f .at) s) (advanced (f .at) s .stage)
+pair-step L names f (Opened v) h g = tt
+pair-step L names f Begun h g = absurd (subst (Has-pair (L .rules) (f .at)) g h)
+pair-step L names f (Paired a b) h g = pair (f .at .verdict)
+  where
+    pair : (v : Verdict) → Has-pair (L .rules) (advanced (f .at) (Paired a b)) (records-of v)
+    pair Included = (g .1, g .2)
+    pair Excluded = (g .1, g .2)
+pair-step L names f (a-row r) h g =
+    subst (Has-pair (L .rules) (advanced (f .at) (a-row r))) (sym (g .0)) (subst (Has-pair (L .rules) (f .at)) (g .0) h)
+pair-step L names f (an-item i) h g =
+    subst (Has-pair (L .rules) (advanced (f .at) (an-item i))) (sym (g .0)) (subst (Has-pair (L .rules) (f .at)) (g .0) h)
+pair-step L names f the-end h g =
+    ⊎-elim (λ e. subst (Has-pair (L .rules) (f .at)) e h) (λ e. subst (Has-pair (L .rules) (f .at)) e h) g
 
 -- a text has no more lines than bytes
 pub lines-few : (xs : List ℕ) → length (lines xs) ≤ length xs

@@ -1,5 +1,5 @@
 -- What is allowed at a record's place.
-use Prim.Native.Nat.{ℕ, _<_, _^_}
+use Prim.Native.Nat.{ℕ, _<_, _≤_, _^_}
 use mathlib.Core.Path.{_≡_}
 use mathlib.Core.Bool.{Bool, true, false, _&&_, _||_}
 use mathlib.Core.List.{List}
@@ -35,6 +35,13 @@ pub record Row-fits (states : ℕ) (r : Row) : Type 0 where
   pub left-state : r .left < states
   pub right-bits : r .right .bits < 2 ^ states
   pub right-states : (q : ℕ) → has (r .right .bits) q ≡ true → q < states
+
+-- an item after k others, in the words of its parts
+pub record Item-sound (names : List Name) (k : ℕ) (i : Item) : Type 0 where
+  pub named : i .name < length names
+  pub child-earlier : i .child ≤ k
+  pub next-earlier : i .next ≤ k
+  pub simple-empty : kind-of names (i .name) ≡ Simple → i .child ≡ 0
 
 -- the items of a list fit their places
 abbrev pub Items-fit : List Name → List Item → Type 0

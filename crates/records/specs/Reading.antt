@@ -1,14 +1,17 @@
 -- A text of records, line after line.
-use Prim.Native.Nat.{ℕ, _+_, _-_}
+use Prim.Native.Nat.{ℕ, _+_, _-_, _<_, _≤_}
+use mathlib.Core.Path.{_≡_}
 use mathlib.Core.Bool.{Bool, cond, _&&_}
 use mathlib.Core.List.{List, [], _∷_, _++_}
 use lib.Dec.{eqb, leb}
-use lib.ListN.{length, replicate, set}
+use lib.ListN.{length, replicate, set, getD, take, drop}
 use Rattle.std.specs.declared.result.Result.{Result}
 use Rattle.std.specs.declared.result.Result.the-variants.{Ok, Err}
 use Rattle.model.specs.declared.names.Name.{Name}
 use Rattle.model.specs.declared.rows.Row.{Row}
 use Rattle.model.specs.declared.rows.Item.{Item}
+use Rattle.model.specs.Blank.{blank-row, blank-item}
+use Rattle.theory.specs.Items.{Earlier}
 use Rattle.text.specs.Pieces.{lines, whole-text}
 use Rattle.records.specs.declared.fault.CallFault.{CallFault}
 use Rattle.records.specs.declared.sheet.Verdict.{Verdict}
@@ -21,6 +24,7 @@ use Rattle.records.specs.declared.sheet.Sheet.{Sheet as SheetType}
 use Rattle.records.specs.declared.sheet.Step.{Step}
 use Rattle.records.specs.declared.sheet.Step.the-variants.{Opened, Begun, Paired, Row as a-row, Item as an-item, Ended as the-end}
 use Rattle.records.specs.Chains.{then, of-line, formless, roomless}
+use Rattle.records.specs.Places.{Row-fits, Item-sound}
 use Rattle.records.specs.Lines.{judged}
 
 -- the stage of the records of a sheet
@@ -149,6 +153,10 @@ abbrev pub answer : {X : Type 0} → (Progress → X) → Result Found CallFault
 answer f (Ok x) = Ok (f (x .at))
 answer f (Err e) = Err e
 
+-- the number of records that were read
+abbrev pub count-of : Progress → ℕ
+count-of p = p .count
+
 -- the rows and the items that were read; none after a refusal
 abbrev pub rows-in : Result Found CallFault → List Row
 rows-in (Ok x) = x .rows
@@ -161,3 +169,29 @@ items-in (Err e) = []
 -- n places: first the records, the others blank
 abbrev pub padded : {X : Type 0} → X → ℕ → List X → List X
 padded blank n xs = xs ++ replicate (n - length xs) blank
+
+-- the first n rows are inequalities over the states, and all others are blank
+pub record Rows-sound (states n : ℕ) (rows : List Row) (items : List Item) : Type 0 where
+  pub within : n ≤ length rows
+  pub fit : (k : ℕ) → k < n → Row-fits states (getD rows k blank-row)
+  pub others : drop n rows ≡ replicate (length rows - n) blank-row
+  pub no-items : items ≡ replicate (length items) blank-item
+
+-- the first n items spell a hedge over the names, and all others are blank
+pub record Items-sound (names : List Name) (n : ℕ) (rows : List Row) (items : List Item) : Type 0 where
+  pub within : n ≤ length items
+  pub fit : (k : ℕ) → k < n → Item-sound names k (getD items k blank-item)
+  pub earlier : Earlier (take n items)
+  pub others : drop n items ≡ replicate (length items - n) blank-item
+  pub no-rows : rows ≡ replicate (length rows) blank-row
+
+-- the records of a sheet, by its verdict
+abbrev pub Records-sound : ℕ → List Name → Verdict → ℕ → List Row → List Item → Type 0
+Records-sound states names Included n rows items = Rows-sound states n rows items
+Records-sound states names Excluded n rows items = Items-sound names n rows items
+
+-- a sheet that was read: its pair are rules, and its records are sound
+pub record Sheet-sound (rules states : ℕ) (names : List Name) (s : SheetType) (rows : List Row) (items : List Item) : Type 0 where
+  pub left-rule : s .left < rules
+  pub right-rule : s .right < rules
+  pub sound : Records-sound states names (s .verdict) (s .records) rows items

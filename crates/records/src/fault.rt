@@ -70,7 +70,7 @@ pub impl From<LineFault> for CallFault as CallFromLine {
 pub impl From<TableFault> for CallFault as CallFromTable {
     ghost converts = { λ f t. t ≡ in-table f };
 
-    fn from(fault: TableFault) -> CallFault {
-        CallFault::Table(fault)
+    fn from(table: TableFault) -> CallFault {
+        CallFault::Table(table)
     }
 }

@@ -7,7 +7,7 @@ ghost use Rattle.std.specs.Vec.{made};
 ghost use Rattle.model.specs.Blank.{blank-row, blank-item};
 ghost use Rattle.text.specs.Pieces.{lines};
 ghost use Rattle.records.specs.Places.{Has-place};
-ghost use Rattle.records.specs.Reading.{advanced, row-placed, item-placed, finished, counted, Opening, begun, run, itself, answer, rows-in, items-in, padded};
+ghost use Rattle.records.specs.Reading.{advanced, row-placed, item-placed, finished, counted, Opening, begun, run, itself, answer, rows-in, items-in, padded, text-read, sheet-of, count-of, sheet-read, hedge-read, Sheet-sound, Items-sound};
 use crate::fault::CallFault;
 use crate::fault::CallFromLine;
 use crate::line::judge;
@@ -121,4 +121,68 @@ fn read_lines(limits: Limits, names: &[Name], stage: Stage, text: &[u8], rows: &
         progress = advance(progress, step);
     }
     finish(progress, reader.count() + 1)
+}
+
+/// Reads a text into blank rows and items, once their counts and the text as a whole are tested.
+fn read_checked(limits: Limits, names: &[Name], stage: Stage, text: &[u8], rows: &mut [Row], items: &mut [Item]) -> Result<Progress, CallFault>
+    requires opening { ⌜ Opening stage ⌝ }
+    requires room { ⌜ limits .room ≡ length (now rows) ⌝ }
+    requires rows { ⌜ now rows ≡ replicate (length (now rows)) blank-row ⌝ }
+    requires items { ⌜ now items ≡ replicate (length (now items)) blank-item ⌝ }
+    ensures result { λ r. ⌜ r ≡ answer itself (text-read limits (now (names .entry)) stage (length (now (rows .entry))) (length (now (items .entry))) (now (text .entry))) ⌝ }
+    ensures rows { λ r. ⌜ made r (λ _. now (rows .exit) ≡ padded blank-row (length (now (rows .entry))) (rows-in (text-read limits (now (names .entry)) stage (length (now (rows .entry))) (length (now (items .entry))) (now (text .entry))))) ⌝ }
+    ensures items { λ r. ⌜ made r (λ _. now (items .exit) ≡ padded blank-item (length (now (items .entry))) (items-in (text-read limits (now (names .entry)) stage (length (now (rows .entry))) (length (now (items .entry))) (now (text .entry))))) ⌝ }
+{
+    counts(rows.len(), items.len())?;
+    whole(text, LIMIT)?;
+    read_lines(limits, names, stage, text, rows, items)
+}
+
+/// Reads a text into rows and items: what is not filled is blank, and all is blank after a refusal.
+fn read_text(limits: Limits, names: &[Name], stage: Stage, text: &[u8], rows: &mut [Row], items: &mut [Item]) -> Result<Progress, CallFault>
+    requires opening { ⌜ Opening stage ⌝ }
+    requires room { ⌜ limits .room ≡ length (now rows) ⌝ }
+    ensures result { λ r. ⌜ r ≡ answer itself (text-read limits (now (names .entry)) stage (length (now (rows .entry))) (length (now (items .entry))) (now (text .entry))) ⌝ }
+    ensures rows { λ _. ⌜ now (rows .exit) ≡ padded blank-row (length (now (rows .entry))) (rows-in (text-read limits (now (names .entry)) stage (length (now (rows .entry))) (length (now (items .entry))) (now (text .entry)))) ⌝ }
+    ensures items { λ _. ⌜ now (items .exit) ≡ padded blank-item (length (now (items .entry))) (items-in (text-read limits (now (names .entry)) stage (length (now (rows .entry))) (length (now (items .entry))) (now (text .entry)))) ⌝ }
+{
+    blank(rows, items);
+    let read = read_checked(limits, names, stage, text, rows, items);
+    if read.is_err() {
+        blank(rows, items);
+    }
+    read
+}
+
+/// Reads a sheet's text against the numbers of rules and states and the names of a grammar. Its
+/// records go to the first rows or items in order; all others are blank, and all of them are after
+/// a refusal.
+pub fn read_sheet(text: &[u8], rules: usize, states: usize, names: &[Name], rows: &mut [Row], items: &mut [Item]) -> Result<Sheet, CallFault>
+    ensures result { λ r. ⌜ r ≡ answer sheet-of (sheet-read rules states (now (names .entry)) (length (now (rows .entry))) (length (now (items .entry))) (now (text .entry))) ⌝ }
+    ensures rows { λ _. ⌜ now (rows .exit) ≡ padded blank-row (length (now (rows .entry))) (rows-in (sheet-read rules states (now (names .entry)) (length (now (rows .entry))) (length (now (items .entry))) (now (text .entry)))) ⌝ }
+    ensures items { λ _. ⌜ now (items .exit) ≡ padded blank-item (length (now (items .entry))) (items-in (sheet-read rules states (now (names .entry)) (length (now (rows .entry))) (length (now (items .entry))) (now (text .entry)))) ⌝ }
+    ensures sound { λ r. ⌜ made r (λ sheet. Sheet-sound rules states (now (names .entry)) sheet (now (rows .exit)) (now (items .exit))) ⌝ }
+{
+    let limits = Limits { rules, states, room: rows.len() };
+    let progress = read_text(limits, names, Stage::Sheet, text, rows, items)?;
+    Ok(Sheet {
+        verdict: progress.verdict,
+        left: progress.left,
+        right: progress.right,
+        records: progress.count,
+    })
+}
+
+/// Reads a hedge's text against the names of a grammar, and answers the number of its items. They
+/// go to the first items in order; all others and all rows are blank, and all of them are after a
+/// refusal.
+pub fn read_hedge(text: &[u8], names: &[Name], rows: &mut [Row], items: &mut [Item]) -> Result<usize, CallFault>
+    ensures result { λ r. ⌜ r ≡ answer count-of (hedge-read (now (names .entry)) (length (now (rows .entry))) (length (now (items .entry))) (now (text .entry))) ⌝ }
+    ensures rows { λ _. ⌜ now (rows .exit) ≡ replicate (length (now (rows .entry))) blank-row ⌝ }
+    ensures items { λ _. ⌜ now (items .exit) ≡ padded blank-item (length (now (items .entry))) (items-in (hedge-read (now (names .entry)) (length (now (rows .entry))) (length (now (items .entry))) (now (text .entry)))) ⌝ }
+    ensures sound { λ r. ⌜ made r (λ n. Items-sound (now (names .entry)) n (now (rows .exit)) (now (items .exit))) ⌝ }
+{
+    let limits = Limits { rules: 0, states: 0, room: rows.len() };
+    let progress = read_text(limits, names, Stage::Hedge, text, rows, items)?;
+    Ok(progress.count)
 }
