@@ -1,1 +1,2 @@
-mod Table
+pub mod Table
+pub mod Some

@@ -1,1 +1,5 @@
+// What an inequality leads to: which labels cover which names, whether it is inconsistent or wide,
+// and the sides of its either-ors.
 pub mod covers;
+pub mod nullable;
+pub mod pairs;
