@@ -2,4 +2,3 @@
 // and the sides of its either-ors.
 pub mod covers;
 pub mod nullable;
-pub mod pairs;
