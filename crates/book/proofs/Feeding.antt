@@ -8,7 +8,7 @@ use mathlib.Core.Logic.{⊎-elim}
 use mathlib.Core.List.{List, [], _∷_, _++_}
 use lib.ListN.{length, take}
 use lib.Dec.{leb}
-use Rattle.std.proofs.shelf.Tests.{cond-true, cond-false, le-leb, lt-leb, leb-true, leb-false, cases-bool, cases-eq}
+use Rattle.std.proofs.shelf.Tests.{cond-true, cond-false, le-leb, lt-leb, leb-true, leb-false, cases-bool, cases-eq, cases-lt}
 use Rattle.std.proofs.shelf.Lists.{take-all, append-nil, append-assoc, length-append, take-append-le, length-take}
 use Rattle.theory.specs.Count.{any, each, enter, entered}
 use Rattle.book.specs.declared.Book.{Book}
@@ -168,3 +168,43 @@ module _ {A : Type 0} (same : A → A → Bool) where
   pub fills-end : (b a : Book A) (f : ℕ → List A) (i n : ℕ) → i ≤ n → n ≤ i → Fills same b a (each i f) true →
       Fills same b a (each n f) true
   fills-end b a f i n le ge = let e : i ≡ n = omega arith in fills-as b a (each i f) (each n f) true (ap (λ k. each k f) e)
+
+take-within : {A : Type 0} (n k : ℕ) (l : List A) → k ≡ min n (length l) → take k l ≡ take n l
+take-within n k l e = ⊎-elim
+    (λ (le : n < length l). let same : k ≡ n = omega arith in ap (λ j. take j l) same)
+    (λ ge. let all : k ≡ length l = omega arith in
+        let long : length l ≤ k = omega arith in
+        take-all k l long ∙ sym (take-all n l ge))
+    (cases-lt n (length l))
+
+-- What stands in the lent records once a list was entered in an empty book: the distinct records of
+-- the list, as many as have room.
+pub fed-written : {A : Type 0} (same : A → A → Bool) (n : ℕ) (records list : List A) (answer : Bool) →
+    Fed same (length records) [] (take n records) list answer →
+    take (length (entered same [] list)) records ≡ take (length records) (entered same [] list)
+fed-written {A} same n records list answer fed = ⊎-elim
+    (λ (over : length records < length whole).
+        let e = ap length (fed .held) in
+        let a = length-take n records in
+        let b = length-take (length records) whole in
+        let le : length records ≤ length whole = omega arith in
+        let at : length records ≤ n = omega arith in
+        take-all (length whole) records le ∙ sym (take-all n records at) ∙ fed .held)
+    (λ (room : length whole ≤ length records).
+        let e = ap length (fed .held ∙ take-all (length records) whole room) in
+        let a = length-take n records in
+        let k : length whole ≡ min n (length records) = omega arith in
+        take-within n (length whole) records k ∙ fed .held)
+    (cases-lt (length records) (length whole))
+  where
+    whole : List A
+    whole = entered same [] list
+
+-- the number of records in an empty book that all of a list had room in
+pub fed-count : {A : Type 0} (same : A → A → Bool) (n : ℕ) (records list : List A) →
+    Fed same (length records) [] (take n records) list true → n ≤ length records → n ≡ length (entered same [] list)
+fed-count same n records list fed le =
+    let room = leb-true (length (entered same [] list)) (length records) (sym (fed .fits)) in
+    let e = ap length (fed .held ∙ take-all (length records) (entered same [] list) room) in
+    let a = length-take n records in
+    omega arith

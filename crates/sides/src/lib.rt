@@ -2,3 +2,4 @@
 // and the sides of its either-ors.
 pub mod covers;
 pub mod nullable;
+pub mod pairs;
