@@ -1,0 +1,3 @@
+mod Gather
+mod Filling
+mod Told

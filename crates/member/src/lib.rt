@@ -8,7 +8,7 @@ ghost use mathlib.Core.Bool.{cond};
 ghost use Rattle.std.specs.declared.option.Option.the-variants.{Some, None};
 ghost use Rattle.sides.specs.View.{view};
 ghost use Rattle.meaning.specs.Tables.{nullable-set, takes, gather, set-at, state-sets, has-spelled};
-ghost use Rattle.member.specs.Sets.{bits-of};
+ghost use Rattle.member.specs.Sets.{bits-of, spelled-set};
 use model::machine::Machine;
 use model::rows::Item;
 use model::sets::StateSet;
@@ -19,8 +19,9 @@ use sides::covers::Covers;
 fn takes_item(machine: &Machine, covers: &Covers, t: usize, inside: StateSet, following: StateSet, q: usize) -> bool
     ensures { λ r. ⌜ r ≡ takes (view (now (machine .entry)) (now (covers .entry))) t (inside .bits) (following .bits) q ⌝ }
 {
-    for d in machine.derivatives(q) {
-        if covers.get(d.0, t) & inside.contains(d.1) & following.contains(d.2) {
+    let derivatives = machine.derivatives(q);
+    for d in derivatives {
+        if covers.get(d.0, t) & (inside.contains(d.1) & following.contains(d.2)) {
             return true;
         }
     }
@@ -78,14 +79,25 @@ fn fill(machine: &Machine, covers: &Covers, items: &[Item], sets: &mut [StateSet
     }
 }
 
-/// Whether the state q has the hedge that the items spell; `sets` is working memory, one set more
-/// than there are items. Nothing where it is shorter.
-pub fn has_hedge(machine: &Machine, covers: &Covers, items: &[Item], sets: &mut [StateSet], q: usize) -> Option<bool>
-    ensures { λ r. ⌜ r ≡ cond (ltb (length (now (items .entry))) (length (now (sets .entry)))) (Some (has-spelled (view (now (machine .entry)) (now (covers .entry))) (now (items .entry)) q)) None ⌝ }
+/// The states that have the hedge that the items spell; `sets` is working memory, one set more than
+/// there are items. Nothing where it is shorter.
+pub fn hedge_states(machine: &Machine, covers: &Covers, items: &[Item], sets: &mut [StateSet]) -> Option<StateSet>
+    ensures { λ r. ⌜ r ≡ cond (ltb (length (now (items .entry))) (length (now (sets .entry)))) (Some (spelled-set (view (now (machine .entry)) (now (covers .entry))) (now (items .entry)))) None ⌝ }
 {
     if items.len() >= sets.len() {
         return None;
     }
     fill(machine, covers, items, sets);
-    Some(sets[items.len()].contains(q))
+    Some(sets[items.len()])
+}
+
+/// Whether the state q has the hedge that the items spell; `sets` is working memory, one set more
+/// than there are items. Nothing where it is shorter.
+pub fn has_hedge(machine: &Machine, covers: &Covers, items: &[Item], sets: &mut [StateSet], q: usize) -> Option<bool>
+    ensures { λ r. ⌜ r ≡ cond (ltb (length (now (items .entry))) (length (now (sets .entry)))) (Some (has-spelled (view (now (machine .entry)) (now (covers .entry))) (now (items .entry)) q)) None ⌝ }
+{
+    match hedge_states(machine, covers, items, sets) {
+        Some(set) => Some(set.contains(q)),
+        None => None,
+    }
 }

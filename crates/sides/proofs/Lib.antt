@@ -1,9 +1,2 @@
-<<<<<<< HEAD
-mod Table
-=======
 pub mod Table
 pub mod Some
-pub mod Subset
-pub mod Crowded
-pub mod Sided
->>>>>>> search

@@ -1,6 +1,2 @@
 pub mod View
-<<<<<<< HEAD
-=======
 pub mod Steps
-pub mod Took
->>>>>>> search
