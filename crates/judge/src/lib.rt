@@ -1,5 +1,2 @@
-//! Judges what a sheet shows, once its text has been read.
 pub mod fault;
-pub mod gap;
 pub mod rows;
-pub mod shown;

@@ -120,7 +120,7 @@ fn read_lines(limits: Limits, names: &[Name], stage: Stage, text: &[u8], rows: &
         place(progress.count, step, rows, items);
         progress = advance(progress, step);
     }
-    finish(progress, reader.count() + 1)
+    finish(progress, reader.next_number())
 }
 
 /// Reads a text into blank rows and items, once their counts and the text as a whole are tested.

@@ -1,4 +1,7 @@
 //! The calls on a register.
+ghost use mathlib.Core.Path.{_≡_};
+ghost use lib.ListN.{length, replicate};
+ghost use Rattle.model.specs.Blank.{blank-row, blank-item};
 use crate::register::Register;
 use judge::fault::SheetFault;
 use judge::fault::SheetFromCall;
@@ -9,7 +12,6 @@ use member::has_hedge;
 use model::rows::Item;
 use model::rows::Row;
 use records::fault::CallFault;
-use records::read::blank;
 use records::read::counts;
 use records::read::read_hedge;
 use records::read::read_sheet;
@@ -24,6 +26,15 @@ use writing::write_sheet;
 pub struct Membership {
     pub yes: bool,
     pub records: usize,
+}
+
+/// Makes all rows and items blank.
+fn blank(rows: &mut [Row], items: &mut [Item])
+    ensures rows { λ _. ⌜ now (rows .exit) ≡ replicate (length (now (rows .entry))) blank-row ⌝ }
+    ensures items { λ _. ⌜ now (items .exit) ≡ replicate (length (now (items .entry))) blank-item ⌝ }
+{
+    rows.fill(Row::blank());
+    items.fill(Item::blank());
 }
 
 /// How a verdict settles its pair.

@@ -82,11 +82,6 @@ loop-line-again c =
       ∙ c .loop-line .inv .5
     , omega (arith, left, g .counted .1, c .loop-line .inv .6))
 
-pub add-count : need.add-count
-add-count c =
-    let n = c .in-rest .ensures tt .counted in
-    omega (arith, c .count .ensures, n, c .loop-line .inv .6)
-
 pub returns : need.returns
 returns c =
     let L = c .args .limits in
@@ -95,11 +90,11 @@ returns c =
     let p = c .loop-line .progress in
     let R = run L names (begun (c .args .stage)) 0 (lines (c .args .text .now)) in
     let g = c .in-rest .ensures tt in
-    let m : c .count .result + 1 ≡ c .loop-line .reader .line + 1 = ap (λ n. n + 1) (c .count .ensures ∙ g .counted) in
-    let done : R ≡ finished (c .count .result + 1) f (p .stage) =
-    sym (c .loop-line .inv .5) ∙ run-done L names f p (c .loop-line .reader .line) (c .count .result + 1) _ (c .loop-line .inv .1) (g .given) m in
+    let m : c .next-number .result ≡ c .loop-line .reader .line + 1 = c .next-number .ensures ∙ ap (λ n. n + 1) (g .counted) in
+    let done : R ≡ finished (c .next-number .result) f (p .stage) =
+    sym (c .loop-line .inv .5) ∙ run-done L names f p (c .loop-line .reader .line) (c .next-number .result) _ (c .loop-line .inv .1) (g .given) m in
     record {
-      result = c .finish .ensures ∙ end-answer (c .count .result + 1) f p (p .stage) (c .loop-line .inv .1) ∙ sym (ap (answer itself) done);
-      rows = end-holds (λ xs. c .loop-line .rows ≡ padded blank-row (L .room) xs) (c .count .result + 1) f p (p .stage) rows-in (c .finish .result) R (c .finish .ensures) done (c .loop-line .inv .3);
-      items = end-holds (λ xs. c .loop-line .items ≡ padded blank-item (L .room) xs) (c .count .result + 1) f p (p .stage) items-in (c .finish .result) R (c .finish .ensures) done (c .loop-line .inv .4)
+      result = c .finish .ensures ∙ end-answer (c .next-number .result) f p (p .stage) (c .loop-line .inv .1) ∙ sym (ap (answer itself) done);
+      rows = end-holds (λ xs. c .loop-line .rows ≡ padded blank-row (L .room) xs) (c .next-number .result) f p (p .stage) rows-in (c .finish .result) R (c .finish .ensures) done (c .loop-line .inv .3);
+      items = end-holds (λ xs. c .loop-line .items ≡ padded blank-item (L .room) xs) (c .next-number .result) f p (p .stage) items-in (c .finish .result) R (c .finish .ensures) done (c .loop-line .inv .4)
     }
