@@ -1,2 +1,6 @@
+//! Judges what a sheet shows, once its text has been read.
 pub mod fault;
+pub mod gap;
+pub mod place;
 pub mod rows;
+pub mod shown;

@@ -21,7 +21,7 @@ pub struct Grounds<'a> {
 }
 
 /// Whether two rows are the same inequality.
-fn same(a: &Row, b: &Row) -> bool
+pub(crate) fn same(a: &Row, b: &Row) -> bool
     ensures { λ r. ⌜ r ≡ same-row (now (a .entry)) (now (b .entry)) ⌝ }
 {
     (a.left == b.left) & (a.right.bits == b.right.bits)
@@ -39,6 +39,24 @@ fn is_row(rows: &[Row], side: &Row) -> bool
     false
 }
 
+/// Whether a pair is settled as included.
+fn is_included(settled: Settled) -> bool
+    ensures { λ r. ⌜ r ≡ included? settled ⌝ }
+{
+    match settled {
+        Settled::Unsettled => false,
+        Settled::Included => true,
+        Settled::Excluded => false,
+    }
+}
+
+/// Whether the set has the state d and no other.
+fn is_alone(set: StateSet, d: usize) -> bool
+    ensures { λ r. ⌜ r ≡ eqb (set .bits) (insert 0 d) ⌝ }
+{
+    set.bits == StateSet::empty().with(d).bits
+}
+
 /// Whether the inequality is rule c against exactly {d}, with that pair settled as included.
 fn leans_on(ledger: &Ledger, rules: usize, side: &Row) -> bool
     ensures { λ r. ⌜ r ≡ leans (at (now (ledger .entry))) rules (now (side .entry)) ⌝ }
@@ -47,9 +65,7 @@ fn leans_on(ledger: &Ledger, rules: usize, side: &Row) -> bool
         return false;
     }
     for d in 0..rules {
-        let alone = StateSet::empty().with(d);
-        let settled = ledger.look_up(side.left, d);
-        if (settled == Settled::Included) & (side.right.bits == alone.bits) {
+        if is_alone(side.right, d) && is_included(ledger.look_up(side.left, d)) {
             return true;
         }
     }

@@ -1,6 +1,6 @@
 //! The calls on a register.
 ghost use mathlib.Core.Path.{_≡_};
-ghost use lib.ListN.{length, replicate};
+ghost use lib.ListN.{length, replicate, take};
 ghost use Rattle.model.specs.Blank.{blank-row, blank-item};
 use crate::register::Register;
 use judge::fault::SheetFault;
@@ -35,6 +35,13 @@ fn blank(rows: &mut [Row], items: &mut [Item])
 {
     rows.fill(Row::blank());
     items.fill(Item::blank());
+}
+
+/// The first `count` elements, or all where there are fewer.
+fn first<T>(all: &[T], count: usize) -> &[T]
+    ensures { λ r. ⌜ now r ≡ take count (now (all .entry)) ⌝ }
+{
+    if count <= all.len() { &all[0..count] } else { all }
 }
 
 /// How a verdict settles its pair.
@@ -85,13 +92,14 @@ impl Register<'_> {
 
     /// Judges what a sheet shows.
     fn judge(&mut self, sheet: Sheet, rows: &[Row], items: &[Item]) -> Result<(), SheetFault> {
+        let count = sheet.records;
         let machine = &self.grammar.machine;
         match sheet.verdict {
             Verdict::Included => {
                 let rules = self.grammar.tables.bodies().len();
-                judge_included(machine, &self.covers, &self.ledger, rules, sheet.left, sheet.right, &rows[0..sheet.records])
+                judge_included(machine, &self.covers, &self.ledger, rules, sheet.left, sheet.right, first(rows, count))
             }
-            Verdict::Excluded => judge_excluded(machine, &self.covers, self.sets.as_mut_slice(), sheet.left, sheet.right, &items[0..sheet.records]),
+            Verdict::Excluded => judge_excluded(machine, &self.covers, self.sets.as_mut_slice(), sheet.left, sheet.right, first(items, count)),
         }
     }
 
@@ -114,7 +122,7 @@ impl Register<'_> {
             return Err(fault);
         }
         let records = read_hedge(text, self.grammar.tables.names(), rows, items)?;
-        let yes = has_hedge(&self.grammar.machine, &self.covers, &items[0..records], self.sets.as_mut_slice(), rule);
+        let yes = has_hedge(&self.grammar.machine, &self.covers, first(items, records), self.sets.as_mut_slice(), rule);
         Ok(Membership { yes: yes.unwrap_or(false), records })
     }
 
