@@ -125,17 +125,25 @@ fn sheet_of(left: usize, right: usize, answer: Answer) -> Option<Sheet> {
     }
 }
 
+/// The sheet of what a call answered, if it is a question with a verdict.
+fn answered(call: Call, answer: Answer) -> Option<Sheet> {
+    match call {
+        Call::Question { left, right, .. } => sheet_of(left, right, answer),
+        _ => None,
+    }
+}
+
 /// The sheet that a call gave, if it gave one.
 fn given(call: Call, reply: Reply) -> Option<Sheet> {
-    match (call, reply) {
-        (Call::Question { left, right, .. }, Reply::Answered(answer)) => sheet_of(left, right, answer),
-        (_, Reply::Accepted(sheet)) => Some(sheet),
+    match reply {
+        Reply::Answered(answer) => answered(call, answer),
+        Reply::Accepted(sheet) => Some(sheet),
         _ => None,
     }
 }
 
 /// Carries out a succession of calls on one register from new, and gives an entry for each.
-pub fn carry_out<R: Relation>(heap: Global, grammar: &Grammar, relation: &R, calls: &[Call]) -> Result<Vec<Entry>, AllocError> {
+pub fn carry_out<'g, R: Relation>(heap: Global, grammar: &'g Grammar<'g>, relation: &R, calls: &[Call]) -> Result<Vec<Entry>, AllocError> {
     let mut register = Register::new(heap, grammar, relation)?;
     let mut entries = Vec::new(heap);
     let mut last = None;
