@@ -29,7 +29,7 @@ pub struct Book<'a, T> {
 
 // The number of the first of the first `count` records that is the same as x; if none is, how
 // many records there are.
-fn find<T: Same>(records: &[T], count: usize, x: &T) -> usize
+pub fn find<T: Same>(records: &[T], count: usize, x: &T) -> usize
     ensures { λ r. ⌜ r ≡ place (T·Same .same) (take count (now (records .entry))) (now (x .entry)) ⌝ }
 {
     let mut i = 0;

@@ -1,6 +1,1 @@
-mod Any
-mod Put
-mod First
-mod Gaps
-mod Exact
 mod Lines

@@ -69,7 +69,7 @@ impl SheetFault {
 pub impl From<CallFault> for SheetFault as SheetFromCall {
     ghost converts = { λ f t. t ≡ in-call f };
 
-    fn from(fault: CallFault) -> SheetFault {
-        SheetFault::Call(fault)
+    fn from(inner: CallFault) -> SheetFault {
+        SheetFault::Call(inner)
     }
 }

@@ -1,6 +1,3 @@
 //! Judges what a sheet shows, once its text has been read.
 pub mod fault;
-pub mod gap;
-pub mod place;
 pub mod rows;
-pub mod shown;

@@ -6,12 +6,13 @@ ghost use lib.ListN.{length};
 ghost use Rattle.std.specs.declared.result.Result.the-variants.{Err};
 ghost use Rattle.ledger.specs.Settled.{at};
 ghost use Rattle.sides.specs.View.{view};
-ghost use Rattle.judge.specs.Judgement.{shown as is-shown, row-fault, first-fault, rooted, included-fault, excluded-fault, refusal};
+ghost use Rattle.gaps.specs.Shows.{shown as is-shown};
+ghost use Rattle.judge.specs.Judgement.{row-fault, first-fault, rooted, included-fault, excluded-fault, refusal};
 ghost use Rattle.judge.specs.Faults.{no-memory};
 use crate::fault::SheetFault;
-use crate::gap::find_gap;
-use crate::shown::Grounds;
-use crate::shown::same;
+use book::kinds::RowSame;
+use gaps::gap::find_gap;
+use gaps::shown::Grounds;
 use ledger::table::Ledger;
 use member::hedge_states;
 use model::machine::Machine;
@@ -58,7 +59,7 @@ fn is_rooted(left: usize, right: usize, rows: &[Row]) -> bool
         return false;
     };
     let root = Row { left, right: StateSet::empty().with(right) };
-    same(first, &root)
+    first.is_same(&root)
 }
 
 /// Judges the rows of an included sheet on the rules `left` and `right`.

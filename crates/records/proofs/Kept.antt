@@ -234,7 +234,7 @@ kept-step L names f (a-row r) h (e, room, fits) =
       within = omega (arith, room);
       placed = subst (λ t. Placed t (f .at .verdict) (f .rows ++ r ∷ []) (f .items)) (sym e) (t .0, t .1);
       rows-fit = all-push (Row-fits (L .states)) (f .rows) r (h .rows-fit) fits;
-      items-fit = h .items-fit
+      items-fit = h .items-fit;
     }
 kept-step L names f (an-item i) h (e, room, fits) =
     let t = subst (λ t. Placed t (f .at .verdict) (f .rows) (f .items)) e (h .placed) in
@@ -244,7 +244,7 @@ kept-step L names f (an-item i) h (e, room, fits) =
       within = omega (arith, room);
       placed = subst (λ t. Placed t (f .at .verdict) (f .rows) (f .items ++ i ∷ [])) (sym e) (t .0, t .1);
       rows-fit = h .rows-fit;
-      items-fit = items-push names (f .items) i (h .items-fit) (subst (λ j. item-fits names j i ≡ true) n fits)
+      items-fit = items-push names (f .items) i (h .items-fit) (subst (λ j. item-fits names j i ≡ true) n fits);
     }
 kept-step L names f the-end h e =
     record {
@@ -252,7 +252,7 @@ kept-step L names f the-end h e =
       within = h .within;
       placed = placed-end (f .at .verdict) (f .rows) (f .items) (⊎-elim (λ a. inl (subst (λ t. Placed t (f .at .verdict) (f .rows) (f .items)) a (h .placed))) (λ a. inr (subst (λ t. Placed t (f .at .verdict) (f .rows) (f .items)) a (h .placed))) e);
       rows-fit = h .rows-fit;
-      items-fit = h .items-fit
+      items-fit = h .items-fit;
     }
 
 -- before the first line

@@ -50,7 +50,7 @@ item-sound names k i h =
       named = ltb-true _ _ (c .0);
       child-earlier = leb-true _ _ (c .1);
       next-earlier = leb-true _ _ (b .1);
-      simple-empty = λ e. ⊎-elim (λ z. eqb-true (i .child) 0 z) (λ z. elim (false≢true (sym (ap is-element e) ∙ z)) [ ]) (or-cases _ _ (a .1))
+      simple-empty = λ e. ⊎-elim (λ z. eqb-true (i .child) 0 z) (λ z. elim (false≢true (sym (ap is-element e) ∙ z)) [ ]) (or-cases _ _ (a .1));
     }
 
 -- a list with blanks after it
@@ -66,7 +66,7 @@ rows-sound states n rows le fit items m none =
       within = omega arith;
       fit = λ k lt. subst (Row-fits states) (sym (getD-append-left rows _ blank-row k lt)) (all-getD (Row-fits states) rows k blank-row lt fit);
       others = drop-at rows _ (length rows) refl ∙ ap (λ l. replicate (l - length rows) blank-row) (sym long);
-      no-items = blanks items none
+      no-items = blanks items none;
     }
   where
     blanks : (items : List Item) → items ≡ [] → padded blank-item m items ≡ replicate (length (padded blank-item m items)) blank-item
@@ -84,7 +84,7 @@ items-sound names n items le fit rows m none =
       fit = λ k lt. subst (Item-sound names k) (sym (getD-append-left items _ blank-item k lt)) (item-sound names k _ (fit k lt));
       earlier = subst Earlier (sym front) (λ k lt. let s = item-sound names k _ (fit k lt) in (s .child-earlier, s .next-earlier));
       others = drop-at items _ (length items) refl ∙ ap (λ l. replicate (l - length items) blank-item) (sym long);
-      no-rows = blanks rows none
+      no-rows = blanks rows none;
     }
   where
     blanks : (rows : List Row) → rows ≡ [] → padded blank-row m rows ≡ replicate (length (padded blank-row m rows)) blank-row

@@ -146,7 +146,13 @@ fn row_line(limits: Limits, count: usize, key: Field, mut fields: Fields) -> Res
 }
 
 /// An item of an excluded sheet or of a hedge.
-fn item_line(names: &[Name], room: usize, count: usize, key: Field, mut fields: Fields) -> Result<Step, CallFault>
+fn item_line(
+    names: &[Name],
+    room: usize,
+    count: usize,
+    key: Field,
+    mut fields: Fields,
+) -> Result<Step, CallFault>
     ensures { λ r. ⌜ r ≡ item-line (now (names .entry)) room count (fields .entry .line) (view (key .entry)) (fields-left (fields .entry)) ⌝ }
 {
     let name = fields.number()?;
@@ -181,7 +187,12 @@ fn end_line(count: usize, key: Field, mut fields: Fields) -> Result<Step, CallFa
 }
 
 /// What the next line says, at the stage that the text has come to.
-pub(crate) fn judge(limits: Limits, names: &[Name], progress: Progress, line: Line) -> Result<Step, CallFault>
+pub(crate) fn judge(
+    limits: Limits,
+    names: &[Name],
+    progress: Progress,
+    line: Line,
+) -> Result<Step, CallFault>
     ensures { λ r. ⌜ r ≡ judged limits (now (names .entry)) progress (line .entry .number) (line .entry .bytes .now) ⌝ }
 {
     let (key, fields) = line.parts()?;

@@ -23,5 +23,8 @@ fn is_element(names: &[Name], t: usize) -> bool
 pub fn item_fits(names: &[Name], earlier: usize, item: Item) -> bool
     ensures { λ r. ⌜ r ≡ item-fits (now (names .entry)) earlier item ⌝ }
 {
-    (item.name < names.len()) & (item.child <= earlier) & (item.next <= earlier) & ((item.child == 0) | is_element(names, item.name))
+    (item.name < names.len())
+        & (item.child <= earlier)
+        & (item.next <= earlier)
+        & ((item.child == 0) | is_element(names, item.name))
 }

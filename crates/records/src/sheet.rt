@@ -20,7 +20,7 @@ pub struct Sheet {
 
 /// What the next line may be.
 #[derive(Clone, Copy)]
-pub(crate) enum Stage {
+pub enum Stage {
     /// The first line of a sheet.
     Sheet,
     /// The first line of a hedge.
@@ -37,7 +37,7 @@ pub(crate) enum Stage {
 
 /// How far a text has been read.
 #[derive(Clone, Copy)]
-pub(crate) struct Progress {
+pub struct Progress {
     pub stage: Stage,
     pub verdict: Verdict,
     pub left: usize,
@@ -47,7 +47,7 @@ pub(crate) struct Progress {
 
 /// How many rules and states there are, and how many records have a place.
 #[derive(Clone, Copy)]
-pub(crate) struct Limits {
+pub struct Limits {
     pub rules: usize,
     pub states: usize,
     pub room: usize,
@@ -55,7 +55,7 @@ pub(crate) struct Limits {
 
 /// What a line says.
 #[derive(Clone, Copy)]
-pub(crate) enum Step {
+pub enum Step {
     /// The first line of a sheet with its verdict.
     Opened(Verdict),
     /// The first line of a hedge.

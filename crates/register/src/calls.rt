@@ -19,7 +19,7 @@ use records::sheet::Sheet;
 use records::sheet::Verdict;
 use search::answer::Answer;
 use search::answer::question;
-use writing::write_sheet;
+use writing::write::write_sheet;
 
 /// The answer of a membership test: whether the rule has the hedge, and how many items it has.
 #[derive(Clone, Copy)]

@@ -40,6 +40,7 @@ has s (x ∷ xs) = sameBytes x s || has s xs
 abbrev pub fresh : ℕ → List ℕ → List (List ℕ) → Result (Unit {0}) LineFault
 fresh n s xs = cond (has s xs) (Err (Spelling n)) (Ok tt)
 
+-- two kinds are the same
 abbrev pub same-kind : Kind → Kind → Bool
 same-kind kind.Simple kind.Simple = true
 same-kind kind.Simple kind.Element = false

@@ -48,9 +48,11 @@ plain t = record {
   rule-lines = vec-items (t .«rule_lines»);
 }
 
+-- what the code's draft stands for
 abbrev pub sketch : Draft → Sketch
 sketch d = record { tables = plain (d .tables); mentions = vec-items (d .mentions); stage = d .stage }
 
+-- what the code's entry stands for
 abbrev pub fact : Entry → Fact
 fact code.Begin = begin
 fact (code.Name k s) = name k (now s)

@@ -7,7 +7,7 @@ use lib.Dec.{eqb, leb, ltb}
 use Rattle.std.specs.declared.result.Result.{Result}
 use Rattle.std.specs.declared.result.Result.the-variants.{Ok, Err}
 use Rattle.model.specs.declared.names.Kind.{Kind}
-use Rattle.model.specs.declared.names.Kind.the-variants.{Simple, Element}
+use Rattle.model.specs.declared.names.Kind.the-variants as kind
 use Rattle.model.specs.declared.nodes.Node.{Node}
 use Rattle.model.specs.declared.nodes.Node.the-variants as node
 use Rattle.text.specs.declared.fault.LineFault.{LineFault}
@@ -22,19 +22,44 @@ use Rattle.tables.specs.declared.words.Shape.the-variants as shape
 use Rattle.tables.specs.declared.words.Arity.{Arity}
 use Rattle.tables.specs.declared.words.Arity.the-variants as arity
 
+-- the word of a kind of name
+abbrev pub kind-word : Kind → List ℕ
+kind-word kind.Simple = codes "simple"
+kind-word kind.Element = codes "element"
+
+-- the word of a key
+abbrev pub key-word : Key → List ℕ
+key-word key.Grammar = codes "grammar"
+key-word key.Name = codes "name"
+key-word key.Under = codes "under"
+key-word key.Node = codes "node"
+key-word key.Rule = codes "rule"
+key-word key.End = codes "end"
+
+-- the word of a shape of node
+abbrev pub shape-word : Shape → List ℕ
+shape-word shape.Nothing = codes "none"
+shape-word shape.Empty = codes "empty"
+shape-word shape.Simple = codes "simple"
+shape-word shape.Rule = codes "rule"
+shape-word shape.Element = codes "element"
+shape-word shape.Union = codes "union"
+shape-word shape.Seq = codes "seq"
+shape-word shape.Star = codes "star"
+
 -- the key that the field is
 abbrev pub key-in : View → Result Key LineFault
 key-in v =
-    cond (is-word (codes "grammar") v) (Ok key.Grammar)
-    (cond (is-word (codes "name") v) (Ok key.Name)
-    (cond (is-word (codes "under") v) (Ok key.Under)
-    (cond (is-word (codes "node") v) (Ok key.Node)
-    (cond (is-word (codes "rule") v) (Ok key.Rule)
-    (cond (is-word (codes "end") v) (Ok key.End) (Err (Form (line-of v))))))))
+    cond (is-word (key-word key.Grammar) v) (Ok key.Grammar)
+    (cond (is-word (key-word key.Name) v) (Ok key.Name)
+    (cond (is-word (key-word key.Under) v) (Ok key.Under)
+    (cond (is-word (key-word key.Node) v) (Ok key.Node)
+    (cond (is-word (key-word key.Rule) v) (Ok key.Rule)
+    (cond (is-word (key-word key.End) v) (Ok key.End) (Err (Form (line-of v))))))))
 
 -- the kind of name that the field is
 abbrev pub kind-in : View → Result Kind LineFault
-kind-in v = cond (is-word (codes "simple") v) (Ok Simple) (cond (is-word (codes "element") v) (Ok Element) (Err (Form (line-of v))))
+kind-in v = cond (is-word (kind-word kind.Simple) v) (Ok kind.Simple) (cond (is-word (kind-word kind.Element) v) (Ok kind.Element) (Err (Form (line-of v))))
 
 -- the number of the format, which is 1
 abbrev pub version-in : View → Result (Unit {0}) LineFault
@@ -43,14 +68,14 @@ version-in v = cond (is-word (codes "1") v) (Ok tt) (Err (Form (line-of v)))
 -- the shape of node that the field is
 abbrev pub shape-in : View → Result Shape LineFault
 shape-in v =
-    cond (is-word (codes "none") v) (Ok shape.Nothing)
-    (cond (is-word (codes "empty") v) (Ok shape.Empty)
-    (cond (is-word (codes "simple") v) (Ok shape.Simple)
-    (cond (is-word (codes "rule") v) (Ok shape.Rule)
-    (cond (is-word (codes "element") v) (Ok shape.Element)
-    (cond (is-word (codes "union") v) (Ok shape.Union)
-    (cond (is-word (codes "seq") v) (Ok shape.Seq)
-    (cond (is-word (codes "star") v) (Ok shape.Star) (Err (Form (line-of v))))))))))
+    cond (is-word (shape-word shape.Nothing) v) (Ok shape.Nothing)
+    (cond (is-word (shape-word shape.Empty) v) (Ok shape.Empty)
+    (cond (is-word (shape-word shape.Simple) v) (Ok shape.Simple)
+    (cond (is-word (shape-word shape.Rule) v) (Ok shape.Rule)
+    (cond (is-word (shape-word shape.Element) v) (Ok shape.Element)
+    (cond (is-word (shape-word shape.Union) v) (Ok shape.Union)
+    (cond (is-word (shape-word shape.Seq) v) (Ok shape.Seq)
+    (cond (is-word (shape-word shape.Star) v) (Ok shape.Star) (Err (Form (line-of v))))))))))
 
 -- how many numbers a node of the shape has
 abbrev pub arity-of : Shape → Arity

@@ -17,7 +17,10 @@ pub enum Arguments<'a> {
 }
 
 /// Takes as many number fields as the line is to end with.
-pub fn take_numbers<'a>(arity: Arity, mut fields: Fields<'a>) -> Result<Arguments<'a>, LineFault>
+pub(crate) fn take_numbers<'a>(
+    arity: Arity,
+    mut fields: Fields<'a>,
+) -> Result<Arguments<'a>, LineFault>
     ensures { λ r. ⌜ seen numbers r ≡ numbers-in arity (fields .entry .line) (fields-left (fields .entry)) ⌝ }
 {
     match arity {
@@ -41,7 +44,7 @@ pub fn take_numbers<'a>(arity: Arity, mut fields: Fields<'a>) -> Result<Argument
 
 impl<'a> Arguments<'a> {
     /// Their values, with 0 for one that is not there.
-    pub fn values(self) -> Result<(usize, usize), LineFault>
+    pub(crate) fn values(self) -> Result<(usize, usize), LineFault>
         ensures { λ r. ⌜ r ≡ values-in (numbers (self .entry)) ⌝ }
     {
         match self {

@@ -10,7 +10,7 @@ use text::fault::LineFault;
 use text::fault::TableFault;
 
 /// Refuses the line where a test of its form failed.
-pub fn check_form(ok: bool, line: usize) -> Result<(), LineFault>
+pub(crate) fn check_form(ok: bool, line: usize) -> Result<(), LineFault>
     ensures { λ r. ⌜ r ≡ form ok line ⌝ }
 {
     if ok {
@@ -21,7 +21,7 @@ pub fn check_form(ok: bool, line: usize) -> Result<(), LineFault>
 }
 
 /// Refuses the line where its table has no room left.
-pub fn check_room(limit: usize, count: usize, line: usize) -> Result<(), TableFault>
+pub(crate) fn check_room(limit: usize, count: usize, line: usize) -> Result<(), TableFault>
     ensures { λ r. ⌜ r ≡ room limit count line ⌝ }
 {
     if count < limit {
@@ -32,7 +32,7 @@ pub fn check_room(limit: usize, count: usize, line: usize) -> Result<(), TableFa
 }
 
 /// Refuses the line where a number is not allowed at its place.
-pub fn check_place(ok: bool, line: usize) -> Result<(), TableFault>
+pub(crate) fn check_place(ok: bool, line: usize) -> Result<(), TableFault>
     ensures { λ r. ⌜ r ≡ place ok line ⌝ }
 {
     if ok {
@@ -55,7 +55,7 @@ fn holds(spelling: &[u8], all: &[&[u8]]) -> bool
 }
 
 /// Refuses the line where its spelling is not new.
-pub fn check_fresh(line: usize, spelling: &[u8], all: &[&[u8]]) -> Result<(), LineFault>
+pub(crate) fn check_fresh(line: usize, spelling: &[u8], all: &[&[u8]]) -> Result<(), LineFault>
     ensures { λ r. ⌜ r ≡ fresh line (now (spelling .entry)) (map held (now (all .entry))) ⌝ }
 {
     if holds(spelling, all) {
@@ -89,7 +89,7 @@ fn is_kind(kind: Kind, names: &[Name], i: usize) -> bool
 }
 
 /// Whether the name may get that head: a lower name of its kind, and its first.
-pub fn may_get_head(names: &[Name], name: usize, head: usize) -> bool
+pub(crate) fn may_get_head(names: &[Name], name: usize, head: usize) -> bool
     ensures { λ r. ⌜ r ≡ may-head (now (names .entry)) name head ⌝ }
 {
     if name >= names.len() || head >= name {
@@ -99,7 +99,7 @@ pub fn may_get_head(names: &[Name], name: usize, head: usize) -> bool
 }
 
 /// Whether the node refers to names of its kind and to earlier nodes; rules are judged later.
-pub fn may_be_node(names: &[Name], count: usize, node: Node) -> bool
+pub(crate) fn may_be_node(names: &[Name], count: usize, node: Node) -> bool
     ensures { λ r. ⌜ r ≡ may-stand (now (names .entry)) count node ⌝ }
 {
     match node {

@@ -53,7 +53,7 @@ fn set_head(names: &mut Vec<Name>, name: usize, head: usize)
 
 impl<'a> Draft<'a> {
     /// Before the first line.
-    pub fn new(heap: Global) -> Draft<'a>
+    pub(crate) fn new(heap: Global) -> Draft<'a>
         ensures { λ r. ⌜ sketch r ≡ blank ⌝ }
     {
         let tables = Tables {
@@ -113,7 +113,7 @@ impl<'a> Draft<'a> {
     }
 
     /// Enters what a line gives.
-    pub fn enter(&mut self, entry: Entry<'a>) -> Result<(), AllocError>
+    pub(crate) fn enter(&mut self, entry: Entry<'a>) -> Result<(), AllocError>
         ensures { λ r. ⌜ made r (λ _. sketch (now (self .exit)) ≡ entered (sketch (now (self .entry))) (fact (entry .entry))) ⌝ }
     {
         match entry {

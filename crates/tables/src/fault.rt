@@ -13,6 +13,7 @@ pub enum ReadError {
     Memory,
 }
 
+/// A table fault is contained whole.
 pub impl From<TableFault> for ReadError as ReadFromTable {
     ghost converts = { λ f r. r ≡ Fault f };
 
@@ -21,6 +22,7 @@ pub impl From<TableFault> for ReadError as ReadFromTable {
     }
 }
 
+/// A line fault is contained whole, inside a table fault.
 pub impl From<LineFault> for ReadError as ReadFromLine {
     ghost converts = { λ f r. r ≡ Fault (in-line f) };
 
@@ -29,6 +31,7 @@ pub impl From<LineFault> for ReadError as ReadFromLine {
     }
 }
 
+/// Want of memory is no fault of the text.
 pub impl From<AllocError> for ReadError as ReadFromAlloc {
     ghost converts = { λ _ r. r ≡ Memory };
 

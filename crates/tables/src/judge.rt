@@ -25,11 +25,13 @@ use text::fault::TableFromLine;
 use text::line::Fields;
 use text::line::Line;
 
-/// The most names, nodes and rules that a grammar has.
+/// The most names that a grammar has.
 const NAMES: usize = 64;
 
+/// The most nodes that it has.
 const NODES: usize = 256;
 
+/// The most rules that it has.
 const RULES: usize = 32;
 
 /// `grammar=1`.
@@ -129,7 +131,7 @@ impl<'a> Tables<'a> {
 
 impl<'a> Draft<'a> {
     /// What the next line enters, if it is lawful there.
-    pub fn judge(&self, line: Line<'a>) -> Result<Entry<'a>, TableFault>
+    pub(crate) fn judge(&self, line: Line<'a>) -> Result<Entry<'a>, TableFault>
         ensures { λ r. ⌜ seen fact r ≡ judged (sketch (now (self .entry))) (line .entry .number) (line .entry .bytes .now) ⌝ }
     {
         let (key, fields) = line.parts()?;

@@ -52,7 +52,7 @@ pub enum Arity {
 }
 
 /// The key that the field is.
-pub fn key_in(field: Field) -> Result<Key, LineFault>
+pub(crate) fn key_in(field: Field) -> Result<Key, LineFault>
     ensures { λ r. ⌜ r ≡ key-in (view (field .entry)) ⌝ }
 {
     if field.is(b"grammar") {
@@ -73,7 +73,7 @@ pub fn key_in(field: Field) -> Result<Key, LineFault>
 }
 
 /// The kind of name that the field is.
-pub fn kind_in(field: Field) -> Result<Kind, LineFault>
+pub(crate) fn kind_in(field: Field) -> Result<Kind, LineFault>
     ensures { λ r. ⌜ r ≡ kind-in (view (field .entry)) ⌝ }
 {
     if field.is(b"simple") {
@@ -86,7 +86,7 @@ pub fn kind_in(field: Field) -> Result<Kind, LineFault>
 }
 
 /// Refuses another number of the format than 1.
-pub fn version_in(field: Field) -> Result<(), LineFault>
+pub(crate) fn version_in(field: Field) -> Result<(), LineFault>
     ensures { λ r. ⌜ r ≡ version-in (view (field .entry)) ⌝ }
 {
     if field.is(b"1") {
@@ -97,7 +97,7 @@ pub fn version_in(field: Field) -> Result<(), LineFault>
 }
 
 /// The shape of node that the field is.
-pub fn shape_in(field: Field) -> Result<Shape, LineFault>
+pub(crate) fn shape_in(field: Field) -> Result<Shape, LineFault>
     ensures { λ r. ⌜ r ≡ shape-in (view (field .entry)) ⌝ }
 {
     if field.is(b"none") {
@@ -123,7 +123,7 @@ pub fn shape_in(field: Field) -> Result<Shape, LineFault>
 
 impl Shape {
     /// How many numbers a node of the shape has.
-    pub fn arity(self) -> Arity
+    pub(crate) fn arity(self) -> Arity
         ensures { λ r. ⌜ r ≡ arity-of self ⌝ }
     {
         match self {
@@ -139,7 +139,7 @@ impl Shape {
     }
 
     /// The node of the shape with these numbers.
-    pub fn node(self, a: usize, b: usize) -> Node
+    pub(crate) fn node(self, a: usize, b: usize) -> Node
         ensures { λ r. ⌜ r ≡ node-of self a b ⌝ }
     {
         match self {
@@ -171,14 +171,14 @@ impl Stage {
     }
 
     /// Whether the end has been read.
-    pub fn has_ended(self) -> bool
+    pub(crate) fn has_ended(self) -> bool
         ensures { λ r. ⌜ r ≡ eqb (order self) 5 ⌝ }
     {
         self.order() == 5
     }
 
     /// Whether a line of the key may follow.
-    pub fn allows(self, key: Key) -> bool
+    pub(crate) fn allows(self, key: Key) -> bool
         ensures { λ r. ⌜ r ≡ allowed self key ⌝ }
     {
         match key {
@@ -202,7 +202,7 @@ impl Stage {
 
 impl Key {
     /// The section that a line of the key stands in.
-    pub fn stage(self) -> Stage
+    pub(crate) fn stage(self) -> Stage
         ensures { λ r. ⌜ r ≡ leads self ⌝ }
     {
         match self {

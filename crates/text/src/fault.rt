@@ -101,6 +101,7 @@ impl TableFault {
     }
 }
 
+/// A line fault is contained whole.
 pub impl From<LineFault> for TableFault as TableFromLine {
     ghost converts = { λ f t. t ≡ in-line f };
 

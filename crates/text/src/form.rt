@@ -8,7 +8,7 @@ ghost use Rattle.text.specs.declared.form.Class.the-variants.{Digit};
 
 /// A class of bytes.
 #[derive(Clone, Copy)]
-enum Class {
+pub enum Class {
     /// A digit.
     Digit,
     /// What a spelling begins with: a letter or an underscore.

@@ -10,7 +10,8 @@ use Rattle.ledger.specs.Settled.{at}
 use Rattle.theory.specs.Machine.{Machine}
 use Rattle.sides.specs.View.{view}
 use Rattle.judge.specs.declared.fault.SheetFault.{SheetFault}
-use Rattle.judge.specs.Judgement.{shown, row-fault, refusal}
+use Rattle.gaps.specs.Shows.{shown}
+use Rattle.judge.specs.Judgement.{row-fault, refusal}
 use Rattle.judge.proofs.Lines.{refusal-none, refusal-some, rows-more, rows-here, rows-past}
 use Rattle.judge.proofs.rows.judge_rows.Needs as need
 

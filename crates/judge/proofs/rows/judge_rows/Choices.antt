@@ -3,7 +3,8 @@ use mathlib.Core.Path.{_≡_}
 use lib.ListN.{drop}
 use Rattle.ledger.specs.Settled.{at}
 use Rattle.sides.specs.View.{view}
-use Rattle.judge.specs.Judgement.{shown, first-fault}
+use Rattle.gaps.specs.Shows.{shown}
+use Rattle.judge.specs.Judgement.{first-fault}
 use Rattle.judge.proofs.rows.judge_rows.Given as given
 
 abbrev pub Inv-loop-i : given.InvT-loop-i

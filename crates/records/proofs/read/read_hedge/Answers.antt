@@ -19,5 +19,5 @@ returns c =
       result = answer-more count-of R p (g .result);
       rows = S .no-rows ∙ ap (λ k. replicate k blank-row) (c .read-text .kept .rows);
       items = g .items;
-      sound = S
+      sound = S;
     }

@@ -16,5 +16,5 @@ returns c =
       result = answer-more sheet-of R p (g .result);
       rows = g .rows;
       items = g .items;
-      sound = sheet-sound (c .args .rules) (c .args .states) names m n bs p _ _ (g .result) (g .rows) (g .items)
+      sound = sheet-sound (c .args .rules) (c .args .states) names m n bs p _ _ (g .result) (g .rows) (g .items);
     }

@@ -1,0 +1,6 @@
+mod Any
+mod Put
+mod First
+mod Gaps
+mod Exact
+mod Linked

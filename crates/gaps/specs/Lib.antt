@@ -1,0 +1,3 @@
+pub mod Shows
+pub mod Gaps
+pub mod Chains

@@ -1,0 +1,4 @@
+pub mod First
+pub mod Spelling
+pub mod Marked
+pub mod Turns

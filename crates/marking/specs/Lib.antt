@@ -1,0 +1,3 @@
+pub mod Refutes
+pub mod Marks
+pub mod Steps

@@ -1,0 +1,4 @@
+pub mod Walk
+pub mod Filling
+pub mod Deciding
+pub mod AllMet

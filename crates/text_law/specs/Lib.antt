@@ -1,0 +1,2 @@
+-- How a text of lines is written.
+pub mod Writing
