@@ -3,4 +3,3 @@ mod Put
 mod First
 mod Gaps
 mod Exact
-mod Linked

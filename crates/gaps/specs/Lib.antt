@@ -1,3 +1,2 @@
 pub mod Shows
 pub mod Gaps
-pub mod Chains
