@@ -1,7 +1,15 @@
 //! The calls on a register.
 ghost use mathlib.Core.Path.{_≡_};
+ghost use Rattle.std.specs.declared.result.Result.the-variants.{Ok};
 ghost use lib.ListN.{length, replicate, take};
+ghost use Prim.Native.Nat.{ℕ};
+ghost use Rattle.std.specs.Of.Vec.{vec-len};
 ghost use Rattle.model.specs.Blank.{blank-row, blank-item};
+ghost use Rattle.ledger.specs.Settled.{at, unsettled};
+ghost use Rattle.sides.specs.View.{view};
+ghost use Rattle.tables.specs.Plain.{plain};
+ghost use Rattle.records.specs.Chains.{then};
+ghost use Rattle.register.specs.Calls.{rule-checked, question-checked, Agrees, Question-leaves, question-settles, looked-up};
 use crate::register::Register;
 use judge::fault::SheetFault;
 use judge::fault::SheetFromCall;
@@ -54,7 +62,9 @@ fn settles(verdict: Verdict) -> Settled {
 
 impl Register<'_> {
     /// Refuses a rule that the grammar does not have.
-    fn check_rule(&self, rule: usize) -> Result<(), CallFault> {
+    fn check_rule(&self, rule: usize) -> Result<(), CallFault>
+        ensures { λ r. ⌜ r ≡ rule-checked (length (plain (now (self .entry) .grammar .now .tables) .bodies)) rule ⌝ }
+    {
         if rule < self.grammar.tables.bodies().len() {
             Ok(())
         } else {
@@ -63,14 +73,20 @@ impl Register<'_> {
     }
 
     /// Refuses what a question may not be given.
-    fn check_question(&self, left: usize, right: usize, rows: usize, items: usize) -> Result<(), CallFault> {
+    fn check_question(&self, left: usize, right: usize, rows: usize, items: usize) -> Result<(), CallFault>
+        ensures { λ r. ⌜ r ≡ question-checked (length (plain (now (self .entry) .grammar .now .tables) .bodies)) left right rows items ⌝ }
+    {
         self.check_rule(left)?;
         self.check_rule(right)?;
         counts(rows, items)
     }
 
     /// Enters the verdict of an answer, if it has one.
-    fn note(&mut self, left: usize, right: usize, answer: Answer) {
+    fn note(&mut self, left: usize, right: usize, answer: Answer)
+        ensures settled { λ _. ⌜ ((c d : ℕ) → at (now (self .exit) .ledger) c d ≡ question-settles (at (now (self .entry) .ledger)) left right (Ok answer) c d) ⌝ }
+        ensures grammar { λ _. ⌜ now (self .exit) .grammar ≡ now (self .entry) .grammar ⌝ }
+        ensures covers { λ _. ⌜ now (self .exit) .covers ≡ now (self .entry) .covers ⌝ }
+    {
         match answer {
             Answer::Included { .. } => self.ledger.enter(left, right, Settled::Included),
             Answer::Excluded { .. } => self.ledger.enter(left, right, Settled::Excluded),
@@ -80,7 +96,13 @@ impl Register<'_> {
     }
 
     /// Whether every hedge of the rule `left` is one of the rule `right`.
-    pub fn question(&mut self, left: usize, right: usize, rows: &mut [Row], items: &mut [Item]) -> Result<Answer, CallFault> {
+    pub fn question(&mut self, left: usize, right: usize, rows: &mut [Row], items: &mut [Item]) -> Result<Answer, CallFault>
+        ensures told { λ r. ⌜ Agrees (question-checked (length (plain (now (self .entry) .grammar .now .tables) .bodies)) left right (length (now (rows .entry))) (length (now (items .entry)))) r ⌝ }
+        ensures leaves { λ r. ⌜ Question-leaves (view (now (self .entry) .grammar .now .machine) (now (self .entry) .covers)) left right (length (now (rows .entry))) (length (now (items .entry))) (vec-len (now (self .entry) .marks)) r (now (rows .exit)) (now (items .exit)) ⌝ }
+        ensures settled { λ r. ⌜ ((c d : ℕ) → at (now (self .exit) .ledger) c d ≡ question-settles (at (now (self .entry) .ledger)) left right r c d) ⌝ }
+        ensures grammar { λ _. ⌜ now (self .exit) .grammar ≡ now (self .entry) .grammar ⌝ }
+        ensures covers { λ _. ⌜ now (self .exit) .covers ≡ now (self .entry) .covers ⌝ }
+    {
         if let Err(fault) = self.check_question(left, right, rows.len(), items.len()) {
             blank(rows, items);
             return Err(fault);
@@ -133,14 +155,20 @@ impl Register<'_> {
     }
 
     /// How a pair is settled.
-    pub fn look_up(&self, left: usize, right: usize) -> Result<Settled, CallFault> {
+    pub fn look_up(&self, left: usize, right: usize) -> Result<Settled, CallFault>
+        ensures { λ r. ⌜ r ≡ looked-up (length (plain (now (self .entry) .grammar .now .tables) .bodies)) (at (now (self .entry) .ledger)) left right ⌝ }
+    {
         self.check_rule(left)?;
         self.check_rule(right)?;
         Ok(self.ledger.look_up(left, right))
     }
 
     /// Makes every pair unsettled.
-    pub fn clear(&mut self) {
+    pub fn clear(&mut self)
+        ensures cleared { λ _. ⌜ ((a b : ℕ) → at (now (self .exit) .ledger) a b ≡ unsettled) ⌝ }
+        ensures grammar { λ _. ⌜ now (self .exit) .grammar ≡ now (self .entry) .grammar ⌝ }
+        ensures covers { λ _. ⌜ now (self .exit) .covers ≡ now (self .entry) .covers ⌝ }
+    {
         self.ledger.clear();
     }
 }
