@@ -99,15 +99,6 @@ fn tell_counts(rt: &LibcRuntime, path: &str, grammar: &Grammar) -> Result<(), An
     Ok(())
 }
 
-/// A question in words.
-#[derive(Clone, Copy)]
-struct Question<'a> {
-    left: &'a str,
-    right: &'a str,
-    relation: &'a str,
-    rows: usize,
-}
-
 /// Writes a sheet, prints it, and says whether a fresh register accepts it.
 fn tell_sheet<R: Relation>(rt: &LibcRuntime, register: &Register, relation: &R, sheet: Sheet, rows: &mut [Row], items: &mut [Item]) -> Result<(), AnyError> {
     let mut output = vec![in rt.alloc(); 0u8; ROOM]?;
@@ -142,8 +133,7 @@ fn tell_message(rt: &LibcRuntime, grammar: &Grammar, items: &[Item], records: us
 }
 
 /// Tells the answer of a question, with its evidence. True only at "included".
-fn tell_answer<R: Relation>(rt: &LibcRuntime, register: &Register, relation: &R, pair: (usize, usize), asked: Question, answer: Answer, rows: &mut [Row], items: &mut [Item]) -> Result<bool, AnyError> {
-    let (left, right) = (asked.left, asked.right);
+fn tell_answer<R: Relation>(rt: &LibcRuntime, register: &Register, relation: &R, pair: (usize, usize), left: &str, right: &str, answer: Answer, rows: &mut [Row], items: &mut [Item]) -> Result<bool, AnyError> {
     match answer {
         Answer::Included { met, records } => {
             println!(rt, "verdict: INCLUDED. Every message of {left} is accepted by {right}.")?;
@@ -172,8 +162,7 @@ fn tell_answer<R: Relation>(rt: &LibcRuntime, register: &Register, relation: &R,
 }
 
 /// Asks the question on a register from new.
-fn ask_with<R: Relation>(rt: &LibcRuntime, grammar: &Grammar, relation: &R, asked: Question) -> Result<bool, AnyError> {
-    let (left, right, word, count) = (asked.left, asked.right, asked.relation, asked.rows);
+fn ask_with<R: Relation>(rt: &LibcRuntime, grammar: &Grammar, relation: &R, word: &str, left: &str, right: &str, count: usize) -> Result<bool, AnyError> {
     println!(rt, "question: is every message of {left} a message of {right}? (relation {word}, {count} rows)")?;
     let Some(a) = find_rule(rt, grammar, left)? else {
         return Ok(false);
@@ -185,7 +174,7 @@ fn ask_with<R: Relation>(rt: &LibcRuntime, grammar: &Grammar, relation: &R, aske
     let mut rows = vec![in rt.alloc(); Row::blank(); count.min(513)]?;
     let mut items = vec![in rt.alloc(); Item::blank(); count.min(513)]?;
     match register.question(a, b, rows.as_mut_slice(), items.as_mut_slice()) {
-        Ok(answer) => tell_answer(rt, &register, relation, (a, b), asked, answer, rows.as_mut_slice(), items.as_mut_slice()),
+        Ok(answer) => tell_answer(rt, &register, relation, (a, b), left, right, answer, rows.as_mut_slice(), items.as_mut_slice()),
         Err(fault) => {
             tell_refusal(rt, "question", Fault { number: fault.number(), line: fault.line(), layer: fault.layer() })?;
             Ok(false)
@@ -196,8 +185,8 @@ fn ask_with<R: Relation>(rt: &LibcRuntime, grammar: &Grammar, relation: &R, aske
 /// Asks the question under the named relation.
 fn ask_named(rt: &LibcRuntime, grammar: &Grammar, left: &str, right: &str, named: Named, rows: usize) -> Result<bool, AnyError> {
     match named {
-        Named::Exact => ask_with(rt, grammar, &Exact {}, Question { left, right, relation: "exact", rows }),
-        Named::Heads => ask_with(rt, grammar, &Heads {}, Question { left, right, relation: "heads", rows }),
+        Named::Exact => ask_with(rt, grammar, &Exact {}, "exact", left, right, rows),
+        Named::Heads => ask_with(rt, grammar, &Heads {}, "heads", left, right, rows),
     }
 }
 

@@ -4,7 +4,7 @@ use mathlib.Core.Bool.{Bool, cond}
 use mathlib.Core.Path.{_≡_}
 use mathlib.Core.List.{List}
 use lib.Dec.{ltb}
-use lib.ListN.{length}
+use lib.ListN.{length, take}
 use Rattle.std.specs.declared.result.Result.{Result}
 use Rattle.std.specs.declared.result.Result.the-variants.{Ok, Err}
 use Rattle.model.specs.declared.rows.Row.{Row}
@@ -12,6 +12,12 @@ use Rattle.model.specs.declared.rows.Item.{Item}
 use Rattle.theory.specs.Machine.{Machine}
 use Rattle.records.specs.declared.fault.CallFault.{CallFault}
 use Rattle.records.specs.declared.fault.CallFault.the-variants.{Rule}
+use Rattle.records.specs.declared.sheet.Sheet.{Sheet}
+use Rattle.records.specs.declared.sheet.Verdict.{Verdict}
+use Rattle.records.specs.declared.sheet.Verdict.the-variants.{Included as claim-included, Excluded as claim-excluded}
+use Rattle.judge.specs.declared.fault.SheetFault.{SheetFault}
+use Rattle.judge.specs.Judgement.{included-fault, excluded-fault, refusal}
+use Rattle.judge.specs.Faults.{no-memory}
 use Rattle.records.specs.Chains.{then}
 use Rattle.records.specs.Reading.{counted}
 use Rattle.ledger.specs.declared.table.Settled.{Settled}
@@ -51,6 +57,29 @@ question-settles before a b (Ok (Excluded k n)) c d = enters before a b settled-
 question-settles before a b (Ok (Wide k)) c d = before c d
 question-settles before a b (Ok (OutOfRows k)) c d = before c d
 question-settles before a b (Err f) c d = before c d
+
+-- how a verdict settles its pair
+abbrev pub settles : Verdict → Settled
+settles claim-included = settled-included
+settles claim-excluded = settled-excluded
+
+-- whether a sheet that was read shows its claim: its rows, or its items, by the rules for its kind
+abbrev pub sheet-judged : Machine → (ℕ → ℕ → Settled) → ℕ → ℕ → Sheet → List Row → List Item → Result (Unit {0}) SheetFault
+sheet-judged m settled rules sets s rows items = elim (s .verdict)
+  [ claim-included ↦ refusal (included-fault m settled rules (s .left) (s .right) (take (s .records) rows))
+  | claim-excluded ↦ cond (ltb (length (take (s .records) items)) sets)
+        (refusal (excluded-fault m (s .left) (s .right) (take (s .records) items))) (Err no-memory)
+  ]
+
+-- the settled pairs after a sheet: an accepted one is entered, nothing else changes
+abbrev pub sheet-settles : (ℕ → ℕ → Settled) → Result Sheet SheetFault → ℕ → ℕ → Settled
+sheet-settles before (Ok s) c d = enters before (s .left) (s .right) (settles (s .verdict)) c d
+sheet-settles before (Err f) c d = before c d
+
+-- a refused sheet leaves all rows and items blank
+abbrev pub Refused-blank : {X F : Type 0} → Result X F → ℕ → ℕ → List Row → List Item → Type 0
+Refused-blank (Ok x) limit room rows items = Unit {0}
+Refused-blank (Err f) limit room rows items = Blanked limit room rows items
 
 -- the answer of a look-up
 abbrev pub looked-up : ℕ → (ℕ → ℕ → Settled) → ℕ → ℕ → Result Settled CallFault

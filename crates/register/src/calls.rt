@@ -8,8 +8,12 @@ ghost use Rattle.model.specs.Blank.{blank-row, blank-item};
 ghost use Rattle.ledger.specs.Settled.{at, unsettled};
 ghost use Rattle.sides.specs.View.{view};
 ghost use Rattle.tables.specs.Plain.{plain};
+ghost use Rattle.model.specs.Machine.{states-of};
+ghost use Rattle.writing.specs.Checks.{sheet-written};
+ghost use Rattle.writing.specs.Texts.{sheet-text};
+ghost use Rattle.writing.specs.Wrote.{filled};
 ghost use Rattle.records.specs.Chains.{then};
-ghost use Rattle.register.specs.Calls.{rule-checked, question-checked, Agrees, Question-leaves, question-settles, looked-up};
+ghost use Rattle.register.specs.Calls.{rule-checked, question-checked, Agrees, Question-leaves, question-settles, looked-up, settles as settles-as, sheet-judged, sheet-settles, Refused-blank};
 use crate::register::Register;
 use judge::fault::SheetFault;
 use judge::fault::SheetFromCall;
@@ -53,14 +57,16 @@ fn first<T>(all: &[T], count: usize) -> &[T]
 }
 
 /// How a verdict settles its pair.
-fn settles(verdict: Verdict) -> Settled {
+fn settles(verdict: Verdict) -> Settled
+    ensures { λ r. ⌜ r ≡ settles-as verdict ⌝ }
+{
     match verdict {
         Verdict::Included => Settled::Included,
         Verdict::Excluded => Settled::Excluded,
     }
 }
 
-impl Register<'_> {
+impl Register<'_, '_> {
     /// Refuses a rule that the grammar does not have.
     fn check_rule(&self, rule: usize) -> Result<(), CallFault>
         ensures { λ r. ⌜ r ≡ rule-checked (length (plain (now (self .entry) .grammar .now .tables) .bodies)) rule ⌝ }
@@ -113,7 +119,12 @@ impl Register<'_> {
     }
 
     /// Judges what a sheet shows.
-    fn judge(&mut self, sheet: Sheet, rows: &[Row], items: &[Item]) -> Result<(), SheetFault> {
+    fn judge(&mut self, sheet: Sheet, rows: &[Row], items: &[Item]) -> Result<(), SheetFault>
+        ensures judged { λ r. ⌜ r ≡ sheet-judged (view (now (self .entry) .grammar .now .machine) (now (self .entry) .covers)) (at (now (self .entry) .ledger)) (length (plain (now (self .entry) .grammar .now .tables) .bodies)) (vec-len (now (self .entry) .sets)) sheet (now (rows .entry)) (now (items .entry)) ⌝ }
+        ensures ledger { λ _. ⌜ now (self .exit) .ledger ≡ now (self .entry) .ledger ⌝ }
+        ensures grammar { λ _. ⌜ now (self .exit) .grammar ≡ now (self .entry) .grammar ⌝ }
+        ensures covers { λ _. ⌜ now (self .exit) .covers ≡ now (self .entry) .covers ⌝ }
+    {
         let count = sheet.records;
         let machine = &self.grammar.machine;
         match sheet.verdict {
@@ -126,7 +137,12 @@ impl Register<'_> {
     }
 
     /// Reads and judges a sheet, and enters it if it shows its claim.
-    pub fn sheet(&mut self, text: &[u8], rows: &mut [Row], items: &mut [Item]) -> Result<Sheet, SheetFault> {
+    pub fn sheet(&mut self, text: &[u8], rows: &mut [Row], items: &mut [Item]) -> Result<Sheet, SheetFault>
+        ensures leaves { λ r. ⌜ Refused-blank r (length (now (rows .entry))) (length (now (items .entry))) (now (rows .exit)) (now (items .exit)) ⌝ }
+        ensures settled { λ r. ⌜ ((c d : ℕ) → at (now (self .exit) .ledger) c d ≡ sheet-settles (at (now (self .entry) .ledger)) r c d) ⌝ }
+        ensures grammar { λ _. ⌜ now (self .exit) .grammar ≡ now (self .entry) .grammar ⌝ }
+        ensures covers { λ _. ⌜ now (self .exit) .covers ≡ now (self .entry) .covers ⌝ }
+    {
         let tables = &self.grammar.tables;
         let sheet = read_sheet(text, tables.bodies().len(), self.grammar.machine.count(), tables.names(), rows, items)?;
         if let Err(fault) = self.judge(sheet, rows, items) {
@@ -138,7 +154,12 @@ impl Register<'_> {
     }
 
     /// Whether the rule's language has the hedge that a text spells.
-    pub fn member(&mut self, rule: usize, text: &[u8], rows: &mut [Row], items: &mut [Item]) -> Result<Membership, CallFault> {
+    pub fn member(&mut self, rule: usize, text: &[u8], rows: &mut [Row], items: &mut [Item]) -> Result<Membership, CallFault>
+        ensures leaves { λ r. ⌜ Refused-blank r (length (now (rows .entry))) (length (now (items .entry))) (now (rows .exit)) (now (items .exit)) ⌝ }
+        ensures ledger { λ _. ⌜ now (self .exit) .ledger ≡ now (self .entry) .ledger ⌝ }
+        ensures grammar { λ _. ⌜ now (self .exit) .grammar ≡ now (self .entry) .grammar ⌝ }
+        ensures covers { λ _. ⌜ now (self .exit) .covers ≡ now (self .entry) .covers ⌝ }
+    {
         if let Err(fault) = self.check_rule(rule) {
             blank(rows, items);
             return Err(fault);
@@ -149,7 +170,10 @@ impl Register<'_> {
     }
 
     /// Writes the sheet of these values into the output, and gives its length.
-    pub fn write(&self, sheet: Sheet, rows: &[Row], items: &[Item], out: &mut [u8]) -> Result<usize, CallFault> {
+    pub fn write(&self, sheet: Sheet, rows: &[Row], items: &[Item], out: &mut [u8]) -> Result<usize, CallFault>
+        ensures result { λ r. ⌜ r ≡ sheet-written (length (plain (now (self .entry) .grammar .now .tables) .bodies)) (length (states-of (now (self .entry) .grammar .now .machine))) (plain (now (self .entry) .grammar .now .tables) .names) sheet (now (rows .entry)) (now (items .entry)) (length (now (out .entry))) ⌝ }
+        ensures out { λ r. ⌜ now (out .exit) ≡ filled r (sheet-text sheet (now (rows .entry)) (now (items .entry))) (now (out .entry)) ⌝ }
+    {
         let tables = &self.grammar.tables;
         write_sheet(sheet, tables.bodies().len(), self.grammar.machine.count(), tables.names(), rows, items, out)
     }

@@ -143,7 +143,7 @@ fn given(call: Call, reply: Reply) -> Option<Sheet> {
 }
 
 /// Carries out a succession of calls on one register from new, and gives an entry for each.
-pub fn carry_out<'g, R: Relation>(heap: Global, grammar: &'g Grammar<'g>, relation: &R, calls: &[Call]) -> Result<Vec<Entry>, AllocError> {
+pub fn carry_out<'g, 't, R: Relation>(heap: Global, grammar: &'g Grammar<'t>, relation: &R, calls: &[Call]) -> Result<Vec<Entry>, AllocError> {
     let mut register = Register::new(heap, grammar, relation)?;
     let mut entries = Vec::new(heap);
     let mut last = None;
