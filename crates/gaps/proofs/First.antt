@@ -25,3 +25,8 @@ first-at f i (suc n) x lt none here = ⊎-elim
 -- at the end
 pub first-end : {X : Type 0} (f : ℕ → Option X) {i n : ℕ} {o : Option X} → i ≡ n → first i f ≡ o → first n f ≡ o
 first-end f e is = ap (λ k. first k f) (sym e) ∙ is
+
+-- none anywhere
+pub first-none : {X : Type 0} (f : ℕ → Option X) (n : ℕ) → ((i : ℕ) → i < n → f i ≡ None) → first n f ≡ None
+first-none f zero all = refl
+first-none f (suc n) all = ap₂ either (first-none f n (λ i lt. all i (omega arith))) (all n (omega arith))

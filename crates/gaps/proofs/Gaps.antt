@@ -11,11 +11,13 @@ use Rattle.std.proofs.shelf.Tests.{cond-true, cond-false}
 use Rattle.model.specs.declared.rows.Row.{Row}
 use Rattle.model.specs.Machine.{Derivative, derivatives-at}
 use Rattle.theory.specs.Machine.{Machine}
-use Rattle.theory.specs.Inequality.{Pair, no-derivative, derivative-count, either-or}
+use Rattle.theory.specs.Inequality.{Pair, no-derivative, derivative, derivative-count, either-or}
+use Rattle.sides.specs.Steps.{labelled-by}
+use Rattle.inequality.proofs.Lists.{some-none}
 use Rattle.gaps.specs.declared.place.Place.{Place}
 use Rattle.gaps.specs.Shows.{unshown}
 use Rattle.gaps.specs.Gaps.{first, known, subset-gap, subset-count, derivative-gap, name-gap, first-gap}
-use Rattle.gaps.proofs.First.{first-at, first-end}
+use Rattle.gaps.proofs.First.{first-none, first-at, first-end}
 
 abbrev place : ℕ → ℕ → ℕ → Place
 place t i k = record { name = t; derivative = i; subset = k }
@@ -66,6 +68,13 @@ pub name-none : (m : Machine) (S : Row → Bool) (r : Row) (t i : ℕ) → i ≡
     first i (derivative-gap m S r t) ≡ None → name-gap m S r t ≡ None
 unfolding name-gap
 name-none m S r t i all none = first-end (derivative-gap m S r t) all none
+
+-- a name that no label of the left covers has no gap
+pub name-unlabelled : (m : Machine) (S : Row → Bool) (r : Row) (t : ℕ) → labelled-by m (r .left) t ≡ false → name-gap m S r t ≡ None
+unfolding name-gap derivative-gap subset-count
+name-unlabelled m S r t none = first-none (derivative-gap m S r t) (derivative-count m (r .left))
+    (λ i lt. ap (λ n. first n (subset-gap m S r t i))
+        (cond-false _ _ _ (some-none (derivative-count m (r .left)) (λ j. m .covers (derivative m (r .left) j .0) t) none i lt)))
 
 -- no name has a gap
 pub gap-none : (m : Machine) (S : Row → Bool) (r : Row) (t : ℕ) → t ≡ m .names →

@@ -3,3 +3,4 @@ mod Put
 mod First
 mod Gaps
 mod Exact
+mod Linked

@@ -1,2 +1,3 @@
 pub mod Shows
 pub mod Gaps
+pub mod Chains

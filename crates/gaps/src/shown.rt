@@ -1,25 +1,18 @@
 //! Whether a side of an either-or is shown.
 ghost use mathlib.Core.Path.{_≡_};
-ghost use mathlib.Core.Bool.{_&&_};
 ghost use lib.Dec.{eqb};
-ghost use Rattle.theory.specs.Count.{any, some};
+ghost use Rattle.theory.specs.Count.{any};
 ghost use Rattle.theory.specs.Inequality.{same-row};
 ghost use Rattle.ledger.specs.Settled.{at};
 ghost use Rattle.model.specs.Sets.{insert};
 ghost use Rattle.gaps.specs.Shows.{included?, leans, shown as is-shown};
 use book::kinds::RowSame;
+use crate::chains::slot;
+use crate::grounds::Grounds;
 use ledger::table::Ledger;
 use ledger::table::Settled;
 use model::rows::Row;
 use model::sets::StateSet;
-
-/// What the sides of a sheet's either-ors may be shown by: its rows, and the settled pairs.
-#[derive(Clone, Copy)]
-pub struct Grounds<'a> {
-    pub rows: &'a [Row],
-    pub ledger: &'a Ledger,
-    pub rules: usize,
-}
 
 /// Whether the inequality is one of the rows.
 fn is_row(rows: &[Row], side: &Row) -> bool
@@ -67,10 +60,28 @@ fn leans_on(ledger: &Ledger, rules: usize, side: &Row) -> bool
 }
 
 impl Grounds<'_> {
-    /// Whether a side is shown.
-    pub fn shows(self, side: &Row) -> bool
-        ensures { λ r. ⌜ r ≡ is-shown (at (now (self .entry .ledger))) (self .entry .rules) (now (self .entry .rows)) (now (side .entry)) ⌝ }
+    /// Whether the inequality is one of the rows: only its chain is looked at.
+    fn has_row(&self, side: &Row) -> bool
+        ensures { λ r. ⌜ r ≡ any (same-row (now (side .entry))) (now (now (self .entry) .rows)) ⌝ }
     {
-        is_row(self.rows, side) || leans_on(self.ledger, self.rules, side)
+        let rows = self.rows;
+        if rows.len() > 512 {
+            return is_row(rows, side);
+        }
+        let mut at = self.heads[slot(side)];
+        while at > 0 {
+            if side.is_same(&rows[at - 1]) {
+                return true;
+            }
+            at = self.links[at - 1];
+        }
+        false
+    }
+
+    /// Whether a side is shown.
+    pub fn shows(&self, side: &Row) -> bool
+        ensures { λ r. ⌜ r ≡ is-shown (at (now (now (self .entry) .ledger))) (now (self .entry) .rules) (now (now (self .entry) .rows)) (now (side .entry)) ⌝ }
+    {
+        self.has_row(side) || leans_on(self.ledger, self.rules, side)
     }
 }

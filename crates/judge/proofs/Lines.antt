@@ -13,6 +13,9 @@ use Rattle.model.specs.declared.rows.Row.{Row}
 use Rattle.model.specs.declared.sets.StateSet.{StateSet}
 use Rattle.model.specs.Blank.{blank-row}
 use Rattle.theory.specs.Machine.{Machine}
+use Rattle.ledger.specs.declared.table.Ledger.{Ledger}
+use Rattle.ledger.specs.Settled.{at}
+use Rattle.gaps.specs.Shows.{shown}
 use Rattle.judge.specs.declared.fault.SheetFault.{SheetFault}
 use Rattle.judge.specs.Judgement.{row-fault, first-fault, or-else, refusal}
 
@@ -54,3 +57,11 @@ rows-past m S rows i past left = sym (at-drop-all (first-fault m S (i + 3)) rows
 pub set-told : (b : Bool) (s x : StateSet) → Some x ≡ cond b (Some s) None → (b ≡ true) × (x ≡ s)
 set-told true s x e = (refl, cc)
 set-told false s x e = (cc, cc)
+
+-- the same rows and settled pairs are judged alike
+pub same-grounds : (m : Machine) {xs ys : List Row} {l k : Ledger} {a b : ℕ} → xs ≡ ys → l ≡ k → a ≡ b →
+    refusal (first-fault m (shown (at l) a xs) 3 xs) ≡ refusal (first-fault m (shown (at k) b ys) 3 ys)
+same-grounds m {ys = ys} {l = l} {k = k} {a = a} rows ledger rules =
+    ap (λ (zs : List Row). refusal (first-fault m (shown (at l) a zs) 3 zs)) rows
+    ∙ ap (λ (h : Ledger). refusal (first-fault m (shown (at h) a ys) 3 ys)) ledger
+    ∙ ap (λ n. refusal (first-fault m (shown (at k) n ys) 3 ys)) rules

@@ -12,7 +12,7 @@ ghost use Rattle.judge.specs.Faults.{no-memory};
 use crate::fault::SheetFault;
 use book::kinds::RowSame;
 use gaps::gap::find_gap;
-use gaps::shown::Grounds;
+use gaps::grounds::Grounds;
 use ledger::table::Ledger;
 use member::hedge_states;
 use model::machine::Machine;
@@ -25,8 +25,8 @@ use sides::nullable::is_inconsistent;
 use sides::wide::is_wide;
 
 /// Refuses the row at a line if it is inconsistent, wide or has a gap.
-fn judge_row(machine: &Machine, covers: &Covers, grounds: Grounds<'_>, line: usize, row: &Row) -> Result<(), SheetFault>
-    ensures { λ r. ⌜ r ≡ refusal (row-fault (view (now (machine .entry)) (now (covers .entry))) (is-shown (at (now (grounds .entry .ledger))) (grounds .entry .rules) (now (grounds .entry .rows))) line (now (row .entry))) ⌝ }
+fn judge_row(machine: &Machine, covers: &Covers, grounds: &Grounds<'_>, line: usize, row: &Row) -> Result<(), SheetFault>
+    ensures { λ r. ⌜ r ≡ refusal (row-fault (view (now (machine .entry)) (now (covers .entry))) (is-shown (at (now (now (grounds .entry) .ledger))) (now (grounds .entry) .rules) (now (now (grounds .entry) .rows))) line (now (row .entry))) ⌝ }
 {
     if is_inconsistent(machine, covers, row) {
         return Err(SheetFault::Inconsistent { line });
@@ -41,8 +41,8 @@ fn judge_row(machine: &Machine, covers: &Covers, grounds: Grounds<'_>, line: usi
 }
 
 /// Refuses the first row that is at fault; row 0 stands at line 3.
-fn judge_rows(machine: &Machine, covers: &Covers, grounds: Grounds<'_>) -> Result<(), SheetFault>
-    ensures { λ r. ⌜ r ≡ refusal (first-fault (view (now (machine .entry)) (now (covers .entry))) (is-shown (at (now (grounds .entry .ledger))) (grounds .entry .rules) (now (grounds .entry .rows))) 3 (now (grounds .entry .rows))) ⌝ }
+fn judge_rows(machine: &Machine, covers: &Covers, grounds: &Grounds<'_>) -> Result<(), SheetFault>
+    ensures { λ r. ⌜ r ≡ refusal (first-fault (view (now (machine .entry)) (now (covers .entry))) (is-shown (at (now (now (grounds .entry) .ledger))) (now (grounds .entry) .rules) (now (now (grounds .entry) .rows))) 3 (now (now (grounds .entry) .rows))) ⌝ }
 {
     let rows = grounds.rows;
     for i in 0..rows.len() {
@@ -69,7 +69,8 @@ pub fn judge_included<'a>(machine: &Machine, covers: &Covers, ledger: &'a Ledger
     if !is_rooted(left, right, rows) {
         return Err(SheetFault::Root);
     }
-    judge_rows(machine, covers, Grounds { rows, ledger, rules })
+    let grounds = Grounds::new(rows, ledger, rules);
+    judge_rows(machine, covers, &grounds)
 }
 
 /// Judges the items of an excluded sheet on the rules `left` and `right`. `sets` is working memory,

@@ -1,2 +1,6 @@
-mod Books
-mod Ranks
+mod Memos
+mod Tests
+mod Reading
+mod Carrying
+mod Going
+mod Building

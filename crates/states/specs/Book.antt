@@ -1,49 +1,21 @@
--- Books of nodes, numbers and derivatives.
-use Prim.Native.Nat.{ℕ, zero, suc, _<_, _≤_}
+-- What comes of entering a record in a book.
+use Prim.Native.Nat.{ℕ, _<_, _≤_}
 use mathlib.Core.Path.{_≡_}
-use mathlib.Core.Bool.{Bool, true, cond, _&&_}
-use mathlib.Core.List.{List, [], _∷_}
+use mathlib.Core.Bool.{Bool, true}
+use mathlib.Core.List.{List}
 use lib.ListN.{length}
-use lib.Dec.{eqb, ltb}
+use lib.Dec.{ltb}
 use Rattle.std.specs.declared.result.Result.{Result}
 use Rattle.std.specs.declared.result.Result.the-variants.{Ok, Err}
-use Rattle.model.specs.declared.nodes.Node.{Node}
-use Rattle.model.specs.declared.nodes.Node.the-variants.{Nothing, Empty, Simple, Rule, Element, Union, Seq, Star}
-use Rattle.model.specs.Machine.{Derivative}
 use Rattle.theory.specs.Count.{enter}
-use Rattle.states.specs.declared.error.BuildError.{BuildError}
-use Rattle.states.specs.declared.error.BuildError.the-variants.{Recursion, TooLarge, NoMemory}
-
--- the number of a node's kind, and its fields
-abbrev pub key : Node → ℕ × ℕ × ℕ
-key Nothing = (0, 0, 0)
-key Empty = (1, 0, 0)
-key (Simple n) = (2, n, 0)
-key (Rule k) = (3, k, 0)
-key (Element n c) = (4, n, c)
-key (Union a b) = (5, a, b)
-key (Seq a b) = (6, a, b)
-key (Star a) = (7, a, 0)
-
-abbrev pub same-number : ℕ → ℕ → Bool
-same-number a b = eqb a b
-
-abbrev pub same-derivative : Derivative → Derivative → Bool
-same-derivative a b = eqb (a .0) (b .0) && (eqb (a .1) (b .1) && eqb (a .2) (b .2))
-
--- whether two nodes are built alike
-abbrev pub same-node : Node → Node → Bool
-same-node a b = same-derivative (key a) (key b)
-
--- the number of the first record that is the same as x; if none is, how many records there are
-abbrev pub place : {A : Type 0} → (A → A → Bool) → List A → A → ℕ
-place same [] x = 0
-place same (y ∷ ys) x = cond (same x y) 0 (suc (place same ys x))
+use Rattle.expressions.specs.Records.{place}
+use Rattle.states.specs.declared.error.Limit.{Limit}
+use Rattle.states.specs.declared.error.Limit.the-variants.{TooLarge, NoMemory}
 
 -- What comes of entering x in a book of at most `limit` records: its number and the book with it;
 -- or that it is new and the book is full; or want of memory.
-abbrev pub Entered : {A : Type 0} → (A → A → Bool) → ℕ → List A → A → Result ℕ BuildError → List A → Type 0
+abbrev pub Entered : {A : Type 0} → (A → A → Bool) → ℕ → List A → A → Result ℕ Limit → List A → Type 0
 Entered same limit book x (Ok i) after =
     (i ≡ place same book x) × (after ≡ enter same book x) × (i < length after) × (length book ≤ limit → length after ≤ limit)
 Entered same limit book x (Err e) after = elim e
-    [ Recursion k ↦ ⊥ | TooLarge ↦ ltb limit (length (enter same book x)) ≡ true | NoMemory ↦ Unit {0} ]
+    [ TooLarge ↦ ltb limit (length (enter same book x)) ≡ true | NoMemory ↦ Unit {0} ]

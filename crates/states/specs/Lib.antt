@@ -1,2 +1,7 @@
+pub mod Fault
 pub mod Book
-pub mod Nodes
+pub mod Memo
+pub mod Test
+pub mod Read
+pub mod Derive
+pub mod Build

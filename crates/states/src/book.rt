@@ -7,9 +7,10 @@ ghost use lib.ListN.{length, getD, drop};
 ghost use lib.Dec.{ltb};
 ghost use Rattle.std.specs.Of.Vec.{vec-items, vec-len};
 ghost use Rattle.theory.specs.Count.{enter as entering};
-ghost use Rattle.states.specs.Book.{place, key, same-node, same-number, same-derivative, Entered};
-use crate::error::BuildError;
-use crate::error::FromRefused;
+ghost use Rattle.expressions.specs.Records.{place, key, same-node, same-number, same-derivative};
+ghost use Rattle.states.specs.Book.{Entered};
+use crate::error::Limit;
+use crate::error::LimitFromRefused;
 use model::machine::Derivative;
 use model::nodes::Node;
 
@@ -78,7 +79,7 @@ fn find<T: Same>(records: &[T], x: &T) -> usize
 }
 
 // Enters x in a book of at most `limit` records and gives its number.
-pub fn enter<T: Same + Copy>(records: &mut Vec<T>, limit: usize, x: T) -> Result<usize, BuildError>
+pub fn enter<T: Same + Copy>(records: &mut Vec<T>, limit: usize, x: T) -> Result<usize, Limit>
     ensures { λ r. ⌜ Entered (T·Same .same) limit (vec-items (now (records .entry))) x r (vec-items (now (records .exit))) ⌝ }
 {
     let i = find(records.as_slice(), &x);
@@ -86,7 +87,7 @@ pub fn enter<T: Same + Copy>(records: &mut Vec<T>, limit: usize, x: T) -> Result
         return Ok(i);
     }
     if i >= limit {
-        return Err(BuildError::TooLarge);
+        return Err(Limit::TooLarge);
     }
     records.push(x)?;
     Ok(i)

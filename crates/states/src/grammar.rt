@@ -1,15 +1,20 @@
 // The expressions of a grammar: its nodes without repeats, `empty` and a mention of each rule.
 ghost use Prim.Native.Nat.{ℕ, _<_, _≤_};
 ghost use mathlib.Core.Path.{_≡_};
+ghost use mathlib.Core.List.{List, [], map};
 ghost use lib.ListN.{length, getD};
 ghost use Rattle.std.specs.Of.Vec.{vec-items, vec-len};
 ghost use Rattle.std.specs.Vec.{made};
-ghost use Rattle.states.specs.Nodes.{earlier, body-at};
+ghost use Rattle.theory.specs.Language.{none};
+ghost use Rattle.theory.specs.Tree.{trees, of-node};
+ghost use Rattle.expressions.specs.Fine.{Fine, Below, Grows, shown};
+ghost use Rattle.states.specs.Read.{Numbered, Moved, Stand-for, mentions, Read};
+ghost use Rattle.expressions.specs.Numbers.{earlier, body-at};
 use crate::book::enter;
 use crate::book::NodeSame;
-use crate::error::BuildError;
-use crate::error::FromAllocError;
-use crate::error::FromRefused;
+use crate::error::Limit;
+use crate::error::LimitFromAlloc;
+use crate::error::LimitFromRefused;
 use model::nodes::Node;
 use std::alloc::Global;
 
@@ -49,12 +54,20 @@ impl Rules {
 }
 
 // The number in the book of the file's node c, or of `none` where there is no such node.
-fn placed(nodes: &mut Vec<Node>, places: &[usize], c: usize) -> Result<usize, BuildError> {
+fn placed(nodes: &mut Vec<Node>, places: &[usize], c: usize) -> Result<usize, Limit>
+    requires fine { ⌜ Fine (vec-items (now nodes)) ⌝ }
+    requires below { ⌜ Below (length (vec-items (now nodes))) (now places) ⌝ }
+    ensures { λ r. ⌜ made r (λ i. Numbered (vec-items (now (nodes .entry))) (vec-items (now (nodes .exit))) i (getD (shown (vec-items (now (nodes .entry))) (now (places .entry))) c none)) ⌝ }
+{
     if c < places.len() { Ok(places[c]) } else { enter(nodes, EXPRESSIONS, Node::Nothing) }
 }
 
 // A node of the file, with the numbers of its parts in the book.
-fn moved(nodes: &mut Vec<Node>, places: &[usize], node: Node) -> Result<Node, BuildError> {
+fn moved(nodes: &mut Vec<Node>, places: &[usize], node: Node) -> Result<Node, Limit>
+    requires fine { ⌜ Fine (vec-items (now nodes)) ⌝ }
+    requires below { ⌜ Below (length (vec-items (now nodes))) (now places) ⌝ }
+    ensures { λ r. ⌜ made r (λ x. Moved (vec-items (now (nodes .entry))) (vec-items (now (nodes .exit))) x (of-node (shown (vec-items (now (nodes .entry))) (now (places .entry))) node)) ⌝ }
+{
     match node {
         Node::Element(n, c) => Ok(Node::Element(n, placed(nodes, places, c)?)),
         Node::Star(a) => Ok(Node::Star(placed(nodes, places, a)?)),
@@ -66,12 +79,18 @@ fn moved(nodes: &mut Vec<Node>, places: &[usize], node: Node) -> Result<Node, Bu
             let left = placed(nodes, places, a)?;
             Ok(Node::Seq(left, placed(nodes, places, b)?))
         }
-        other => Ok(other),
+        Node::Nothing => Ok(Node::Nothing),
+        Node::Empty => Ok(Node::Empty),
+        Node::Simple(n) => Ok(Node::Simple(n)),
+        Node::Rule(k) => Ok(Node::Rule(k)),
     }
 }
 
 // Enters the nodes of the file and gives their numbers.
-fn place_nodes(heap: Global, nodes: &mut Vec<Node>, file: &[Node]) -> Result<Vec<usize>, BuildError> {
+fn place_nodes(heap: Global, nodes: &mut Vec<Node>, file: &[Node]) -> Result<Vec<usize>, Limit>
+    requires { ⌜ vec-items (now nodes) ≡ [] ⌝ }
+    ensures { λ r. ⌜ made r (λ v. Stand-for (vec-items (now (nodes .exit))) (vec-items v) (trees (now (file .entry)))) ⌝ }
+{
     let mut places = Vec::new(heap);
     for node in file {
         let here = moved(nodes, places.as_slice(), *node)?;
@@ -82,8 +101,11 @@ fn place_nodes(heap: Global, nodes: &mut Vec<Node>, file: &[Node]) -> Result<Vec
 }
 
 // The numbers of the bodies.
-fn place_bodies(heap: Global, nodes: &mut Vec<Node>, places: &[usize], file: &[usize]) -> Result<Vec<usize>, BuildError>
-    ensures { λ r. ⌜ made r (λ v. vec-len v ≡ length (now (file .entry))) ⌝ }
+fn place_bodies(heap: Global, nodes: &mut Vec<Node>, places: &[usize], file: &[usize]) -> Result<Vec<usize>, Limit>
+    requires fine { ⌜ Fine (vec-items (now nodes)) ⌝ }
+    requires below { ⌜ Below (length (vec-items (now nodes))) (now places) ⌝ }
+    ensures count { λ r. ⌜ made r (λ v. vec-len v ≡ length (now (file .entry))) ⌝ }
+    ensures value { λ r. ⌜ made r (λ v. Grows (vec-items (now (nodes .entry))) (vec-items (now (nodes .exit))) × Stand-for (vec-items (now (nodes .exit))) (vec-items v) (map (λ c. getD (shown (vec-items (now (nodes .entry))) (now (places .entry))) c none) (now (file .entry)))) ⌝ }
 {
     let mut bodies = Vec::new(heap);
     for body in file {
@@ -94,7 +116,10 @@ fn place_bodies(heap: Global, nodes: &mut Vec<Node>, places: &[usize], file: &[u
 }
 
 // Enters a mention of each rule and gives their numbers.
-fn place_mentions(heap: Global, nodes: &mut Vec<Node>, rules: usize) -> Result<Vec<usize>, BuildError> {
+fn place_mentions(heap: Global, nodes: &mut Vec<Node>, rules: usize) -> Result<Vec<usize>, Limit>
+    requires { ⌜ Fine (vec-items (now nodes)) ⌝ }
+    ensures { λ r. ⌜ made r (λ v. Grows (vec-items (now (nodes .entry))) (vec-items (now (nodes .exit))) × Stand-for (vec-items (now (nodes .exit))) (vec-items v) (mentions rules)) ⌝ }
+{
     let mut mentions = Vec::new(heap);
     for k in 0..rules {
         let number = enter(nodes, EXPRESSIONS, Node::Rule(k))?;
@@ -104,8 +129,8 @@ fn place_mentions(heap: Global, nodes: &mut Vec<Node>, rules: usize) -> Result<V
 }
 
 // The expressions of a file's nodes and rules.
-pub fn read(heap: Global, file: &[Node], rules: &[usize]) -> Result<Grammar, BuildError>
-    ensures { λ r. ⌜ made r (λ g. vec-len (g .rules .bodies) ≡ length (now (rules .entry))) ⌝ }
+pub fn read(heap: Global, file: &[Node], rules: &[usize]) -> Result<Grammar, Limit>
+    ensures { λ r. ⌜ made r (λ g. Read (now (file .entry)) (now (rules .entry)) g) ⌝ }
 {
     let mut nodes = Vec::new(heap);
     let places = place_nodes(heap, &mut nodes, file)?;

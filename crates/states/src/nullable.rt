@@ -2,7 +2,10 @@
 ghost use Prim.Native.Nat.{ℕ, _+_, _*_, _<_, _≤_};
 ghost use mathlib.Core.Path.{_≡_};
 ghost use lib.ListN.{length, getD, set};
+ghost use Rattle.std.specs.Of.Vec.{vec-items};
+ghost use Rattle.expressions.specs.Numbers.{null-at};
 ghost use Rattle.states.specs.declared.nullable.Known.the-variants.{Unknown};
+ghost use Rattle.states.specs.Memo.{known, Sound};
 use crate::grammar::earlier_of;
 use crate::grammar::Rules;
 use crate::grammar::EXPRESSIONS;
@@ -31,6 +34,7 @@ fn look(memo: &[Known], rule: usize, node: usize) -> Known
 // Notes an answer.
 fn note(memo: &mut [Known], rule: usize, node: usize, answer: bool)
     requires { ⌜ rule ≤ 32 ⌝ ∗ ⌜ node < 512 ⌝ }
+    ensures { λ _. ⌜ now (memo .exit) ≡ set (now (memo .entry)) (rule * 512 + node) (known answer) ⌝ }
 {
     let i = rule * EXPRESSIONS + node;
     if i < memo.len() {
@@ -41,7 +45,11 @@ fn note(memo: &mut [Known], rule: usize, node: usize, answer: bool)
 // Whether a node is nullable, where only the rules below `rule` are known. A mention is followed
 // into that rule's body.
 pub fn nullable(nodes: &[Node], rules: &Rules, memo: &mut [Known], rule: usize, node: usize) -> bool
-    requires { ⌜ rule ≤ 32 ⌝ }
+    requires small { ⌜ rule ≤ 32 ⌝ }
+    requires few { ⌜ length (now nodes) ≤ 512 ⌝ }
+    requires sound { ⌜ Sound (now nodes) (vec-items (now rules .bodies)) (now memo) ⌝ }
+    ensures value { λ r. ⌜ r ≡ null-at (now (nodes .entry)) (vec-items (now (rules .entry) .bodies)) rule node ⌝ }
+    ensures sound { λ _. ⌜ Sound (now (nodes .entry)) (vec-items (now (rules .entry) .bodies)) (now (memo .exit)) ⌝ }
 {
     if node >= nodes.len() || node >= EXPRESSIONS {
         return false;

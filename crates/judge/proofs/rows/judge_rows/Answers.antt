@@ -18,22 +18,22 @@ use Rattle.judge.proofs.rows.judge_rows.Needs as need
 pub loop-i-again : need.loop-i-again
 loop-i-again c =
     let m : Machine = view (c .args .machine .now) (c .args .covers .now) in
-    let S : Row → Bool = shown (at (c .args .grounds .ledger .now)) (c .args .grounds .rules) (c .args .grounds .rows .now) in
-    rows-more m S (c .args .grounds .rows .now) (c .loop-i .i) (c .loop-i-test .taken) (c .loop-i .inv)
-        (refusal-none (row-fault m S (c .loop-i .i + 3) (getD (c .args .grounds .rows .now) (c .loop-i .i) blank-row))
+    let S : Row → Bool = shown (at (c .args .grounds .now .ledger .now)) (c .args .grounds .now .rules) (c .args .grounds .now .rows .now) in
+    rows-more m S (c .args .grounds .now .rows .now) (c .loop-i .i) (c .loop-i-test .taken) (c .loop-i .inv)
+        (refusal-none (row-fault m S (c .loop-i .i + 3) (getD (c .args .grounds .now .rows .now) (c .loop-i .i) blank-row))
             (c .in-Continue-judge-row .ensures tt))
 
 pub returns-in-Break-judge-row : need.returns-in-Break-judge-row
 returns-in-Break-judge-row c =
     let m : Machine = view (c .args .machine .now) (c .args .covers .now) in
-    let S : Row → Bool = shown (at (c .args .grounds .ledger .now)) (c .args .grounds .rules) (c .args .grounds .rows .now) in
+    let S : Row → Bool = shown (at (c .args .grounds .now .ledger .now)) (c .args .grounds .now .rules) (c .args .grounds .now .rows .now) in
     let p = err-from-errBy (c .from-residual .result) (c .from-residual .ensures .1) in
-    p .1 ∙ ap refusal (rows-here m S (c .args .grounds .rows .now) (c .loop-i .i) (p .0) (c .loop-i-test .taken) (c .loop-i .inv)
-        (refusal-some (row-fault m S (c .loop-i .i + 3) (getD (c .args .grounds .rows .now) (c .loop-i .i) blank-row)) (p .0)
+    p .1 ∙ ap refusal (rows-here m S (c .args .grounds .now .rows .now) (c .loop-i .i) (p .0) (c .loop-i-test .taken) (c .loop-i .inv)
+        (refusal-some (row-fault m S (c .loop-i .i + 3) (getD (c .args .grounds .now .rows .now) (c .loop-i .i) blank-row)) (p .0)
             (ap (λ (f : SheetFault). Err f) (p .2) ∙ c .in-Break-judge-row .ensures tt)))
 
 pub returns : need.returns
 returns c =
     let m : Machine = view (c .args .machine .now) (c .args .covers .now) in
-    let S : Row → Bool = shown (at (c .args .grounds .ledger .now)) (c .args .grounds .rules) (c .args .grounds .rows .now) in
-    ap refusal (rows-past m S (c .args .grounds .rows .now) (c .loop-i .i) (c .loop-i-test .left) (c .loop-i .inv))
+    let S : Row → Bool = shown (at (c .args .grounds .now .ledger .now)) (c .args .grounds .now .rules) (c .args .grounds .now .rows .now) in
+    ap refusal (rows-past m S (c .args .grounds .now .rows .now) (c .loop-i .i) (c .loop-i-test .left) (c .loop-i .inv))

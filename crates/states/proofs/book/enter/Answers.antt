@@ -4,8 +4,8 @@ use mathlib.Core.Path.{_≡_, sym, ap, _∙_}
 use lib.ListN.{length}
 use Rattle.std.specs.Of.Vec.{vec-items}
 use Rattle.std.proofs.shelf.Lists.{length-push}
-use Rattle.states.specs.Book.{place}
-use Rattle.states.proofs.Books.{enter-old, enter-new, enter-full, place-le}
+use Rattle.expressions.specs.Records.{place}
+use Rattle.expressions.proofs.Books.{enter-old, enter-new, enter-full, place-le}
 use Rattle.states.proofs.book.enter.Needs as need
 
 pub returns-then-i-len : need.returns-then-i-len

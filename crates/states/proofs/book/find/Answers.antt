@@ -1,5 +1,5 @@
 use mathlib.Core.Path.{sym, _∙_}
-use Rattle.states.proofs.Books.{seek-here, seek-next, seek-end}
+use Rattle.expressions.proofs.Books.{seek-here, seek-next, seek-end}
 use Rattle.states.proofs.book.find.Needs as need
 use native.Mathlib.Omega.{arith}
 

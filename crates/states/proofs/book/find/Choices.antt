@@ -1,7 +1,7 @@
 use Prim.Native.Nat.{_+_, _-_, _≤_}
 use mathlib.Core.Path.{_≡_}
 use lib.ListN.{length, drop}
-use Rattle.states.specs.Book.{place}
+use Rattle.expressions.specs.Records.{place}
 use Rattle.states.proofs.book.find.Given as given
 
 abbrev pub Inv-loop-i : given.InvT-loop-i

@@ -1,4 +1,4 @@
-use Rattle.states.specs.Nodes.{rank}
+use Rattle.expressions.specs.Numbers.{rank}
 use Rattle.states.proofs.derive.+derive.Given as given
 
 abbrev pub μ-derive : given.MeasureT-derive

@@ -8,7 +8,7 @@ use lib.ListN.{length, getD}
 use lib.Dec.{ltb}
 use Rattle.std.proofs.shelf.Tests.{cond-true, cond-false, lt-ltb, le-ltb, ltb-true, ltb-false}
 use Rattle.std.proofs.shelf.Lists.{getD-past}
-use Rattle.states.specs.Nodes.{earlier, body-at, rank}
+use Rattle.expressions.specs.Numbers.{earlier, rank}
 
 place-le : (node : ℕ) → cond (ltb node 512) (suc node) 0 ≤ 512
 place-le node = go (ltb node 512) refl

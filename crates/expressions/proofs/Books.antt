@@ -10,7 +10,7 @@ use lib.Dec.{ltb}
 use Rattle.std.proofs.shelf.Tests.{cond-true, cond-false, lt-ltb}
 use Rattle.std.proofs.shelf.Lists.{at-drop-more, at-drop-all, length-push}
 use Rattle.theory.specs.Count.{any, enter}
-use Rattle.states.specs.Book.{place}
+use Rattle.expressions.specs.Records.{place}
 
 -- at a number that is in the book
 seek-in : {A : Type 0} (same : A → A → Bool) (rs : List A) (i : ℕ) (x y : A) →

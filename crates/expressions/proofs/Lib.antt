@@ -1,0 +1,10 @@
+pub mod Ranks
+pub mod Trees
+pub mod Nulls
+pub mod Lawful
+pub mod Books
+pub mod Fine
+pub mod Shown
+pub mod Inject
+pub mod Ders
+pub mod Standing
