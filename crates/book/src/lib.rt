@@ -1,5 +1,7 @@
 // A book holds each record once: a record that is there already keeps its number, a new one gets
 // the next. The records stand in a slice that the caller lends, whose length is the book's limit.
+#![tactic(auto)]
+
 ghost use Rattle.std.specs.Prelude.{◌≡◌, ◌≤◌, Bool, [], ◌∷◌, length, take, drop};
 ghost use Rattle.theory.specs.Count.{enter};
 ghost use Rattle.book.specs.Place.{place, numbered};

@@ -1,4 +1,6 @@
 //! The message comparer's program.
+#![tactic(auto)]
+
 mod ask;
 mod commands;
 mod runs;

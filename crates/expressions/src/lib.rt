@@ -1,2 +1,3 @@
 // Expressions by numbers, nullability by numbers, and the test of lawful recursion: definitions and
 // proofs alone.
+#![tactic(auto)]

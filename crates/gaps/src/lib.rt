@@ -1,4 +1,6 @@
 //! Gaps of a sheet's rows: either-ors neither of whose sides is shown.
+#![tactic(auto)]
+
 pub mod chains;
 pub mod gap;
 pub mod grounds;

@@ -1,3 +1,5 @@
 //! Judges what a sheet shows, once its text has been read.
+#![tactic(auto)]
+
 pub mod fault;
 pub mod rows;

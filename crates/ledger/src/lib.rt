@@ -1,4 +1,6 @@
 //! The table of settled pairs that a register keeps.
+#![tactic(auto)]
+
 ghost use Rattle.std.specs.Prelude.{◌≡◌, ℕ, ◌<◌, IfOk};
 ghost use Rattle.ledger.specs.Settled.{at, enters, unsettled};
 

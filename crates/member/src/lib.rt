@@ -1,5 +1,7 @@
 //! Membership: whether a state has the hedge that items spell. For each item in order the set of all
 //! states that have the hedge beginning there is put into a table, so shared items cost nothing more.
+#![tactic(auto)]
+
 ghost use Rattle.std.specs.Prelude.{◌≡◌, ◌+◌, ◌<◌, ◌≤◌, length, take, if◌then◌else◌, Some, None, nat_lt, slice_index, slice_index_or};
 ghost use Rattle.sides.specs.View.{view};
 ghost use Rattle.meaning.specs.Tables.{nullable_set, takes, gather, set_at, state_sets, has_spelled};

@@ -1,5 +1,7 @@
 // The plain data that every layer shares: names and their relation, nodes, sets of states,
 // rows (inequalities) and items (hedges).
+#![tactic(auto)]
+
 pub mod machine;
 pub mod names;
 pub mod nodes;

@@ -1,4 +1,6 @@
 //! What reading and writing sheets are to each other.
+#![tactic(auto)]
+
 ghost use Rattle.records_law.specs.Laws.{ReadsBack, IsWritten};
 
 /// The text of a sheet that writing does not refuse reads back as that sheet.

@@ -1,5 +1,7 @@
 //! A register on one grammar and one name relation: questions, sheets, membership tests, writing,
 //! look-ups and clearings.
+#![tactic(auto)]
+
 mod blank;
 pub mod member;
 mod new;

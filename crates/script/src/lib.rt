@@ -1,4 +1,5 @@
 //! Scripts: one call a line, for replaying a succession of calls on one register.
+#![tactic(auto)]
 
 /// A call as a script spells it. Files are named as the script has them.
 #[derive(Clone, Copy)]

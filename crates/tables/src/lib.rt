@@ -1,4 +1,6 @@
 //! The tables of a grammar, read from its text.
+#![tactic(auto)]
+
 mod args;
 mod checks;
 mod draft;

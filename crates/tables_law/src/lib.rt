@@ -1,5 +1,7 @@
 //! Which texts are grammars: a text is accepted exactly when it is the writing of lawful tables, and then those tables
 //! are what is read.
+#![tactic(auto)]
+
 ghost use Rattle.std.specs.Prelude.{IfOk};
 ghost use Rattle.tables.specs.Plain.{plain};
 ghost use Rattle.tables.specs.Read.{read, answers};

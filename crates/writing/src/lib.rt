@@ -1,4 +1,6 @@
 //! Writing the text of a sheet.
+#![tactic(auto)]
+
 pub mod check;
 pub mod put;
 pub mod write;
