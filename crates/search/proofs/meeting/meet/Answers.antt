@@ -9,9 +9,9 @@ use Rattle.search.proofs.meeting.meet.Goals as goal
 pub returns : goal.returns
 returns c =
     let m = view c.args.machine.now c.args.covers.now in
-    let is : c.rows·1.given.0 ≡ c.walk-end.new.book.records.now = c.rows·1.given.1.1 (sym c.walk-end.ensures.lent) in
+    let is : c.rows-1.given.0 ≡ c.walk-end.new.book.records.now = c.rows-1.given.1.1 (sym c.walk-end.ensures.lent) in
     record {
       met = ap (λ (l : List Row). met_by c.walk-end.result (take c.walk-end.new.book.count l)) is
           ∙ c.walk-end.ensures.met ∙ meet_start m c.args.root c.args.rows.now c.requires;
-      within = omega (arith, c.walk-end.ensures.within, c.rows·1.given.1.0, ap length is, length-set c.args.rows.now 0 c.args.root);
+      within = omega (arith, c.walk-end.ensures.within, c.rows-1.given.1.0, ap length is, length-set c.args.rows.now 0 c.args.root);
     }

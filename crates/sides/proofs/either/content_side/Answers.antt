@@ -4,4 +4,4 @@ use Rattle.sides.proofs.either.content_side.Goals as goal
 
 pub returns : goal.returns
 unfolding either_or
-returns c = ap (λ (s : ℕ). row c.args.derivative.1 s) c.contents-of.ensures
+returns c = ap (λ (s : ℕ). row c.args.derivative.1 s) c.contents_of.ensures

@@ -4,4 +4,4 @@ use Rattle.sides.proofs.either.rest_side.Goals as goal
 
 pub returns : goal.returns
 unfolding either_or
-returns c = ap (λ (s : ℕ). row c.args.derivative.2 s) c.rests-of.ensures
+returns c = ap (λ (s : ℕ). row c.args.derivative.2 s) c.rests_of.ensures

@@ -5,8 +5,8 @@ use Rattle.sides.proofs.entering.enter_covered.Goals as goal
 
 pub returns-then-get : goal.returns-then-get
 returns-then-get c = record {
-  fills = fills_when same_row c.args.book.now c.enter-subsets.new.book _ _ c.enter-subsets.result (sym c.get.ensures ∙ c.if-get.true) c.enter-subsets.ensures.fills;
-  lent = c.enter-subsets.ensures.lent;
+  fills = fills_when same_row c.args.book.now c.enter_subsets.new.book _ _ c.enter_subsets.result (sym c.get.ensures ∙ c.if-get.true) c.enter_subsets.ensures.fills;
+  lent = c.enter_subsets.ensures.lent;
 }
 
 pub returns-else-get : goal.returns-else-get

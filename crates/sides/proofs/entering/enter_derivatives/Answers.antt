@@ -14,26 +14,26 @@ pub loop-i-preserved : goal.loop-i-preserved
 loop-i-preserved c =
     let m = view c.args.machine.now c.args.covers.now in
     let of : Derivative → List Row = derivative_sides m.covers c.args.t c.args.pairs.now in (
-      fills_turn same_row c.args.book.now c.loop-i.book c.enter-covered.new.book (λ i. of (derivative m c.args.q i)) c.loop-i.i
+      fills_turn same_row c.args.book.now c.loop-i.book c.enter_covered.new.book (λ i. of (derivative m c.args.q i)) c.loop-i.i
           c.loop-i.invariant.0
-          (fills_as same_row c.loop-i.book c.enter-covered.new.book _ _ true
+          (fills_as same_row c.loop-i.book c.enter_covered.new.book _ _ true
           (ap (λ (l : List Derivative). of (get_or l c.loop-i.i no_derivative)) c.derivatives-derivatives.ensures)
-          c.if-not-enter-covered.ensures.fills),
-      (c.enter-covered.ensures.lent ∙ c.loop-i.invariant.1),
+          c.if-not-enter_covered.ensures.fills),
+      (c.enter_covered.ensures.lent ∙ c.loop-i.invariant.1),
     )
 
-pub returns-then-not-enter-covered : goal.returns-then-not-enter-covered
-returns-then-not-enter-covered c =
+pub returns-then-not-enter_covered : goal.returns-then-not-enter_covered
+returns-then-not-enter_covered c =
     let m = view c.args.machine.now c.args.covers.now in
     let of : Derivative → List Row = derivative_sides m.covers c.args.t c.args.pairs.now in
     let lt : c.loop-i.i < derivative_count m c.args.q = omega (arith, ap length c.derivatives-derivatives.ensures) in
     record {
-      fills = fills_stop same_row c.args.book.now c.loop-i.book c.enter-covered.new.book (λ i. of (derivative m c.args.q i)) c.loop-i.i _ lt
+      fills = fills_stop same_row c.args.book.now c.loop-i.book c.enter_covered.new.book (λ i. of (derivative m c.args.q i)) c.loop-i.i _ lt
           c.loop-i.invariant.0
-          (fills_as same_row c.loop-i.book c.enter-covered.new.book _ _ false
+          (fills_as same_row c.loop-i.book c.enter_covered.new.book _ _ false
           (ap (λ (l : List Derivative). of (get_or l c.loop-i.i no_derivative)) c.derivatives-derivatives.ensures)
-          c.if-not-enter-covered.ensures.fills);
-      lent = c.enter-covered.ensures.lent ∙ c.loop-i.invariant.1;
+          c.if-not-enter_covered.ensures.fills);
+      lent = c.enter_covered.ensures.lent ∙ c.loop-i.invariant.1;
     }
 
 pub returns : goal.returns

@@ -9,4 +9,4 @@ use Rattle.sides.proofs.entering.enter_derivatives.Given as goal
 abbrev pub invariant-loop-i : goal.invariant-loop-i
 invariant-loop-i l =
     Fills same_row l.initial.book l.book (each l.i (λ i. derivative_sides (covers_of l.covers) l.t l.pairs (derivative (view l.machine l.covers) l.q i))) true
-    × (l.book.records.name ≡ l.initial.book.records.name)
+    × (l.book.records.ghost_name ≡ l.initial.book.records.ghost_name)

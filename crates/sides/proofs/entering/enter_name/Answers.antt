@@ -28,10 +28,10 @@ returns-in-Some c =
     let is : take (c.in-Some.count - 0) c.pairs.new.records ≡ ps =
     ap (λ k. take k c.pairs.new.records) same ∙ c.in-Some.ensures.written ∙ take_all 8 ps at.1 in
     record {
-      fills = fills_as same_row c.args.book.now c.enter-derivatives.new.book _ _ c.enter-derivatives.result
+      fills = fills_as same_row c.args.book.now c.enter_derivatives.new.book _ _ c.enter_derivatives.result
           (ap (λ (l : List Pair). derivative_step m c.args.t c.args.row.now.left l) is ∙ name_sides m c.args.row.now c.args.t)
-          c.enter-derivatives.ensures.fills;
-      lent = c.enter-derivatives.ensures.lent;
+          c.enter_derivatives.ensures.fills;
+      lent = c.enter_derivatives.ensures.lent;
     }
 
 pub returns-in-None : goal.returns-in-None

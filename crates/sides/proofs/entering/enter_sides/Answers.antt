@@ -13,20 +13,20 @@ loop-t-init c = (fills_none same_row c.args.book.now, refl)
 pub loop-t-preserved : goal.loop-t-preserved
 loop-t-preserved c =
     let m = view c.args.machine.now c.args.covers.now in (
-      fills_turn same_row c.args.book.now c.loop-t.book c.enter-name.new.book (λ t. sides_of (of_name m c.args.row.now t)) c.loop-t.t
-          c.loop-t.invariant.0 c.if-not-enter-name.ensures.fills,
-      (c.enter-name.ensures.lent ∙ c.loop-t.invariant.1),
+      fills_turn same_row c.args.book.now c.loop-t.book c.enter_name.new.book (λ t. sides_of (of_name m c.args.row.now t)) c.loop-t.t
+          c.loop-t.invariant.0 c.if-not-enter_name.ensures.fills,
+      (c.enter_name.ensures.lent ∙ c.loop-t.invariant.1),
     )
 
-pub returns-then-not-enter-name : goal.returns-then-not-enter-name
-returns-then-not-enter-name c =
+pub returns-then-not-enter_name : goal.returns-then-not-enter_name
+returns-then-not-enter_name c =
     let m = view c.args.machine.now c.args.covers.now in
     let lt : c.loop-t.t < names_of c.args.covers.now = omega (arith, c.names-t-end.ensures) in
     record {
-      fills = fills_as same_row c.args.book.now c.enter-name.new.book _ _ false (sym (sides_are m c.args.row.now))
-          (fills_stop same_row c.args.book.now c.loop-t.book c.enter-name.new.book (λ t. sides_of (of_name m c.args.row.now t)) c.loop-t.t (names_of c.args.covers.now) lt
-          c.loop-t.invariant.0 c.if-not-enter-name.ensures.fills);
-      lent = c.enter-name.ensures.lent ∙ c.loop-t.invariant.1;
+      fills = fills_as same_row c.args.book.now c.enter_name.new.book _ _ false (sym (sides_are m c.args.row.now))
+          (fills_stop same_row c.args.book.now c.loop-t.book c.enter_name.new.book (λ t. sides_of (of_name m c.args.row.now t)) c.loop-t.t (names_of c.args.covers.now) lt
+          c.loop-t.invariant.0 c.if-not-enter_name.ensures.fills);
+      lent = c.enter_name.ensures.lent ∙ c.loop-t.invariant.1;
     }
 
 pub returns : goal.returns

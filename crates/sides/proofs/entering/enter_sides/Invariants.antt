@@ -9,4 +9,4 @@ use Rattle.sides.proofs.entering.enter_sides.Given as goal
 abbrev pub invariant-loop-t : goal.invariant-loop-t
 invariant-loop-t l =
     Fills same_row l.initial.book l.book (each l.t (λ t. sides_of (of_name (view l.machine l.covers) l.row t))) true
-    × (l.book.records.name ≡ l.initial.book.records.name)
+    × (l.book.records.ghost_name ≡ l.initial.book.records.ghost_name)

@@ -10,20 +10,20 @@ loop-subset-init c = (fills_none same_row c.args.book.now, refl)
 
 pub loop-subset-preserved : goal.loop-subset-preserved
 loop-subset-preserved c = (
-  fills_turn same_row c.args.book.now c.loop-subset.book c.enter-subset.new.book (side_step c.args.derivative c.args.pairs.now) c.loop-subset.subset
-      c.loop-subset.invariant.0 c.if-not-enter-subset.ensures.fills,
-  (c.enter-subset.ensures.lent ∙ c.loop-subset.invariant.1),
+  fills_turn same_row c.args.book.now c.loop-subset.book c.enter_subset.new.book (side_step c.args.derivative c.args.pairs.now) c.loop-subset.subset
+      c.loop-subset.invariant.0 c.if-not-enter_subset.ensures.fills,
+  (c.enter_subset.ensures.lent ∙ c.loop-subset.invariant.1),
 )
 
-pub returns-then-not-enter-subset : goal.returns-then-not-enter-subset
-returns-then-not-enter-subset c =
+pub returns-then-not-enter_subset : goal.returns-then-not-enter_subset
+returns-then-not-enter_subset c =
     let few : length c.args.pairs.now < 64 = omega arith in
     let e : (1 * 2 ^ length c.args.pairs.now) % 2 ^ 64 ≡ 2 ^ length c.args.pairs.now = one_shl (length c.args.pairs.now) 64 few in
     let lt : c.loop-subset.subset < 2 ^ length c.args.pairs.now = omega arith in
     record {
-      fills = fills_stop same_row c.args.book.now c.loop-subset.book c.enter-subset.new.book (side_step c.args.derivative c.args.pairs.now) c.loop-subset.subset _ lt
-          c.loop-subset.invariant.0 c.if-not-enter-subset.ensures.fills;
-      lent = c.enter-subset.ensures.lent ∙ c.loop-subset.invariant.1;
+      fills = fills_stop same_row c.args.book.now c.loop-subset.book c.enter_subset.new.book (side_step c.args.derivative c.args.pairs.now) c.loop-subset.subset _ lt
+          c.loop-subset.invariant.0 c.if-not-enter_subset.ensures.fills;
+      lent = c.enter_subset.ensures.lent ∙ c.loop-subset.invariant.1;
     }
 
 pub returns : goal.returns

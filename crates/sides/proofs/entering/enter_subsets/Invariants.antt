@@ -8,4 +8,4 @@ use Rattle.sides.proofs.entering.enter_subsets.Given as goal
 abbrev pub invariant-loop-subset : goal.invariant-loop-subset
 invariant-loop-subset l =
     Fills same_row l.initial.book l.book (each l.subset (side_step l.derivative l.pairs)) true
-    × (l.book.records.name ≡ l.initial.book.records.name)
+    × (l.book.records.ghost_name ≡ l.initial.book.records.ghost_name)

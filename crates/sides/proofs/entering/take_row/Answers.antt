@@ -1,17 +1,17 @@
 use Rattle.std.proofs.Common.{◌≡◌, sym, refl, ◌∙◌}
 use Rattle.sides.proofs.entering.take_row.Goals as goal
 
-pub returns-then-is-wide : goal.returns-then-is-wide
-returns-then-is-wide c = record { took = (sym c.is-wide.ensures ∙ c.if-is-wide.true, refl); lent = refl }
+pub returns-then-is_wide : goal.returns-then-is_wide
+returns-then-is_wide c = record { took = (sym c.is_wide.ensures ∙ c.if-is_wide.true, refl); lent = refl }
 
-pub returns-then-enter-sides : goal.returns-then-enter-sides
-returns-then-enter-sides c = record {
-  took = (sym c.is-wide.ensures ∙ c.if-is-wide.false, c.if-enter-sides.ensures.fills);
-  lent = c.enter-sides.ensures.lent;
+pub returns-then-enter_sides : goal.returns-then-enter_sides
+returns-then-enter_sides c = record {
+  took = (sym c.is_wide.ensures ∙ c.if-is_wide.false, c.if-enter_sides.ensures.fills);
+  lent = c.enter_sides.ensures.lent;
 }
 
-pub returns-else-enter-sides : goal.returns-else-enter-sides
-returns-else-enter-sides c = record {
-  took = (sym c.is-wide.ensures ∙ c.if-is-wide.false, c.if-enter-sides.ensures.fills);
-  lent = c.enter-sides.ensures.lent;
+pub returns-else-enter_sides : goal.returns-else-enter_sides
+returns-else-enter_sides c = record {
+  took = (sym c.is_wide.ensures ∙ c.if-is_wide.false, c.if-enter_sides.ensures.fills);
+  lent = c.enter_sides.ensures.lent;
 }

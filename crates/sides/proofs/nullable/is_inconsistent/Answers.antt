@@ -4,4 +4,4 @@ use Rattle.sides.proofs.nullable.is_inconsistent.Goals as goal
 
 pub returns : goal.returns
 unfolding inconsistent
-returns c = ap₂ ◌&&◌ c.is-nullable.ensures (ap not c.some-nullable.ensures)
+returns c = ap₂ ◌&&◌ c.is_nullable.ensures (ap not c.some_nullable.ensures)

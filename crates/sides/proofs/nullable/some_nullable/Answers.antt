@@ -8,14 +8,14 @@ use Rattle.sides.proofs.nullable.some_nullable.Goals as goal
 
 pub loop-q-preserved : goal.loop-q-preserved
 loop-q-preserved c = some_more _ c.loop-q.q c.loop-q.invariant
-    (ap₂ ◌&&◌ (sym c.contains.ensures) (sym c.is-nullable.ensures) ∙ c.if-contains-is-nullable.false)
+    (ap₂ ◌&&◌ (sym c.contains.ensures) (sym c.is_nullable.ensures) ∙ c.if-contains-is_nullable.false)
 
-pub returns-then-contains-is-nullable : goal.returns-then-contains-is-nullable
+pub returns-then-contains-is_nullable : goal.returns-then-contains-is_nullable
 unfolding some_nullable
-returns-then-contains-is-nullable c =
+returns-then-contains-is_nullable c =
     let lt : c.loop-q.q < length (states_of c.args.machine.now) = omega (arith, c.count-q-end.ensures) in
     sym (some_at (λ q. has c.args.set.now.bits q && nullable_at (states_of c.args.machine.now) q) c.loop-q.q _ lt
-    (ap₂ ◌&&◌ (sym c.contains.ensures) (sym c.is-nullable.ensures) ∙ c.if-contains-is-nullable.true))
+    (ap₂ ◌&&◌ (sym c.contains.ensures) (sym c.is_nullable.ensures) ∙ c.if-contains-is_nullable.true))
 
 pub returns : goal.returns
 unfolding some_nullable

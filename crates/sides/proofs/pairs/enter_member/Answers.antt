@@ -5,8 +5,8 @@ use Rattle.sides.proofs.pairs.enter_member.Goals as goal
 
 pub returns-then-contains : goal.returns-then-contains
 returns-then-contains c = record {
-  fills = fills_when same_pair c.args.book.now c.enter-state.new.book _ _ c.enter-state.result (sym c.contains.ensures ∙ c.if-contains.true) c.enter-state.ensures.fills;
-  lent = c.enter-state.ensures.lent;
+  fills = fills_when same_pair c.args.book.now c.enter_state.new.book _ _ c.enter_state.result (sym c.contains.ensures ∙ c.if-contains.true) c.enter_state.ensures.fills;
+  lent = c.enter_state.ensures.lent;
 }
 
 pub returns-else-contains : goal.returns-else-contains

@@ -9,25 +9,25 @@ use Rattle.sides.proofs.pairs.enter_set.Goals as goal
 pub loop-q-init : goal.loop-q-init
 loop-q-init c = (fills_none same_pair c.args.book.now, refl)
 
-pub returns-then-not-enter-member : goal.returns-then-not-enter-member
+pub returns-then-not-enter_member : goal.returns-then-not-enter_member
 unfolding all_pairs
-returns-then-not-enter-member c =
+returns-then-not-enter_member c =
     let lt : c.loop-q.q < length (states_of c.args.machine.now) = omega (arith, c.count-q-end.ensures) in
     record {
-      fills = fills_stop same_pair c.args.book.now c.loop-q.book c.enter-member.new.book
+      fills = fills_stop same_pair c.args.book.now c.loop-q.book c.enter_member.new.book
           (state_step (view c.args.machine.now c.args.covers.now) c.args.t c.args.set.now.bits) c.loop-q.q _ lt
           c.loop-q.invariant.0
-          (fills_says same_pair c.loop-q.book c.enter-member.new.book _ _ _ c.if-not-enter-member.true c.enter-member.ensures.fills);
-      lent = c.enter-member.ensures.lent ∙ c.loop-q.invariant.1;
+          (fills_says same_pair c.loop-q.book c.enter_member.new.book _ _ _ c.if-not-enter_member.true c.enter_member.ensures.fills);
+      lent = c.enter_member.ensures.lent ∙ c.loop-q.invariant.1;
     }
 
 pub loop-q-preserved : goal.loop-q-preserved
 loop-q-preserved c = (
-  fills_turn same_pair c.args.book.now c.loop-q.book c.enter-member.new.book
+  fills_turn same_pair c.args.book.now c.loop-q.book c.enter_member.new.book
       (state_step (view c.args.machine.now c.args.covers.now) c.args.t c.args.set.now.bits) c.loop-q.q
       c.loop-q.invariant.0
-      (fills_says same_pair c.loop-q.book c.enter-member.new.book _ _ _ c.if-not-enter-member.false c.enter-member.ensures.fills),
-  (c.enter-member.ensures.lent ∙ c.loop-q.invariant.1),
+      (fills_says same_pair c.loop-q.book c.enter_member.new.book _ _ _ c.if-not-enter_member.false c.enter_member.ensures.fills),
+  (c.enter_member.ensures.lent ∙ c.loop-q.invariant.1),
 )
 
 pub returns : goal.returns

@@ -9,4 +9,4 @@ use Rattle.sides.proofs.pairs.enter_set.Given as goal
 abbrev pub invariant-loop-q : goal.invariant-loop-q
 invariant-loop-q l =
     Fills same_pair l.initial.book l.book (each l.q (state_step (view l.machine l.covers) l.t l.set.bits)) true
-    × (l.book.records.name ≡ l.initial.book.records.name)
+    × (l.book.records.ghost_name ≡ l.initial.book.records.ghost_name)

@@ -9,4 +9,4 @@ use Rattle.sides.proofs.pairs.enter_state.Given as goal
 abbrev pub invariant-loop-i : goal.invariant-loop-i
 invariant-loop-i l =
     Fills same_pair l.initial.book l.book (each l.i (pair_step (view l.machine l.covers) l.t l.q)) true
-    × (l.book.records.name ≡ l.initial.book.records.name)
+    × (l.book.records.ghost_name ≡ l.initial.book.records.ghost_name)

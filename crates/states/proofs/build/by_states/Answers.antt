@@ -21,8 +21,8 @@ loop-i-preserved c =
       omega arith,
       named_more (vec_items c.args.numbers.now) (vec_items c.loop-i.numbers) (vec_items c.enter.new.records) (vec_items c.enter-in-loop-i.new.records)
           found (vec_items c.loop-i.derivatives) (vec_items c.push.new.self) c.args.span.from c.loop-i.i d.0 d.1 d.2
-          c.in-ok-inside.inside c.in-ok-following.following c.loop-i.invariant.0 (omega arith) refl c.loop-i.invariant.2
-          c.in-ok-inside.ensures c.in-ok-following.ensures c.in-ok-push.ensures.items,
+          c.in_ok-inside.inside c.in_ok-following.following c.loop-i.invariant.0 (omega arith) refl c.loop-i.invariant.2
+          c.in_ok-inside.ensures c.in_ok-following.ensures c.in_ok-push.ensures.items,
     )
 
 pub returns : goal.returns

@@ -16,19 +16,19 @@ derive-requires c =
 
 pub nullable-nullable-requires : goal.nullable-nullable-requires
 nullable-nullable-requires c =
-    let st = c.in-ok-span.ensures.0.state in
+    let st = c.in_ok-span.ensures.0.state in
     let bodies = vec_items c.args.rules.now.bodies in
     let few = c.requires.few in
     record {
       small = omega arith;
-      few = subst (λ l. length l ≤ 512) (sym c.as-slice.ensures.value) st.fine.0;
-      sound = subst (λ l. Sound l bodies c.as-mut-slice.result.now) (sym c.as-slice.ensures.value)
-          (subst (λ l. Sound (vec_items c.derive.new.w.nodes) bodies l) (sym c.as-mut-slice.ensures.value) st.sound);
+      few = subst (λ l. length l ≤ 512) (sym c.as_slice.ensures.value) st.fine.0;
+      sound = subst (λ l. Sound l bodies c.as_mut_slice.result.now) (sym c.as_slice.ensures.value)
+          (subst (λ l. Sound (vec_items c.derive.new.w.nodes) bodies l) (sym c.as_mut_slice.ensures.value) st.sound);
     }
 
-pub by-states-requires : goal.by-states-requires
-by-states-requires c = record {
-  inside = subst (λ l. Inside l c.in-ok-span.span) (sym c.as-slice-2.ensures.value) c.in-ok-span.ensures.1.0;
+pub by_states-requires : goal.by_states-requires
+by_states-requires c = record {
+  inside = subst (λ l. Inside l c.in_ok-span.span) (sym c.as_slice-2.ensures.value) c.in_ok-span.ensures.1.0;
   separate = c.requires.numbers.0;
 }
 
@@ -38,24 +38,24 @@ returns c =
     let bodies = vec_items rules.bodies in
     let w0 = c.args.w.now in
     let w1 = c.derive.new.w in
-    let went = c.in-ok-span.ensures in
-    let span = c.in-ok-span.span in
+    let went = c.in_ok-span.ensures in
+    let span = c.in_ok-span.span in
     let ws = c.nullable-nullable.new.memo in
-    let long : length ws ≡ w1.nulls.len = omega (arith, c.nullable-nullable.auto.memo, c.as-mut-slice.ensures.len) in
+    let long : length ws ≡ w1.nulls.len = omega (arith, c.nullable-nullable.auto.memo, c.as_mut_slice.ensures.len) in
     let sound : Sound (vec_items w1.nodes) bodies ws =
-    subst (λ l. Sound l bodies ws) c.as-slice.ensures.value c.nullable-nullable.ensures.sound in
+    subst (λ l. Sound l bodies ws) c.as_slice.ensures.value c.nullable-nullable.ensures.sound in
     let count : c.len-count.result ≡ length bodies = c.len-count.ensures ∙ rules.bodies.ok.0 in
     let null : c.nullable-nullable.result ≡ null_at (vec_items w1.nodes) bodies c.len-count.result c.args.node =
-    c.nullable-nullable.ensures.value ∙ ap (λ l. null_at l bodies c.len-count.result c.args.node) c.as-slice.ensures.value in
-    let made_so : Named (vec_items c.args.numbers.now) (vec_items c.by-states.new.numbers) (part (vec_items w1.found) span.from span.to) (vec_items c.in-ok-derivatives.derivatives) =
-    subst (λ l. Named (vec_items c.args.numbers.now) (vec_items c.by-states.new.numbers) (part l span.from span.to) (vec_items c.in-ok-derivatives.derivatives))
-    c.as-slice-2.ensures.value c.in-ok-derivatives.ensures in
+    c.nullable-nullable.ensures.value ∙ ap (λ l. null_at l bodies c.len-count.result c.args.node) c.as_slice.ensures.value in
+    let made_so : Named (vec_items c.args.numbers.now) (vec_items c.by_states.new.numbers) (part (vec_items w1.found) span.from span.to) (vec_items c.in_ok-derivatives.derivatives) =
+    subst (λ l. Named (vec_items c.args.numbers.now) (vec_items c.by_states.new.numbers) (part l span.from span.to) (vec_items c.in_ok-derivatives.derivatives))
+    c.as_slice-2.ensures.value c.in_ok-derivatives.ensures in
     record {
       goes = on_nulls bodies rules.empty (vec_items w0.nodes) (vec_items w1.nodes) (vec_items w1.nulls) (vec_items (with_items w1.nulls ws)) (vec_items w0.found) (vec_items w1.found) (vec_items w1.spans)
           (subst (Sound (vec_items w1.nodes) bodies) (sym (with_items_is w1.nulls ws long)) sound) went.0;
-      numbers = numbering_made (vec_items w0.nodes) (vec_items w1.nodes) (vec_items c.args.numbers.now) (vec_items c.by-states.new.numbers)
-          (vec_items w1.found) (vec_items c.in-ok-derivatives.derivatives) span went.0.nodes_grow went.0.state.listed c.requires.numbers made_so;
+      numbers = numbering_made (vec_items w0.nodes) (vec_items w1.nodes) (vec_items c.args.numbers.now) (vec_items c.by_states.new.numbers)
+          (vec_items w1.found) (vec_items c.in_ok-derivatives.derivatives) span went.0.nodes_grow went.0.state.listed c.requires.numbers made_so;
       extends = made_so.extends;
-      stated = state_made (vec_items w1.nodes) bodies (vec_items c.args.numbers.now) (vec_items c.by-states.new.numbers) (vec_items w1.found)
-          (vec_items c.in-ok-derivatives.derivatives) span c.args.node c.len-count.result c.nullable-nullable.result count null went.1.1 made_so;
+      stated = state_made (vec_items w1.nodes) bodies (vec_items c.args.numbers.now) (vec_items c.by_states.new.numbers) (vec_items w1.found)
+          (vec_items c.in_ok-derivatives.derivatives) span c.args.node c.len-count.result c.nullable-nullable.result count null went.1.1 made_so;
     }

@@ -6,7 +6,7 @@ use Rattle.expressions.proofs.Standing.{total_more, extends_long}
 use Rattle.states.specs.Build.{SoFar}
 use Rattle.states.proofs.Building.{so_far_more, so_far_none}
 use Rattle.states.proofs.build.states_of.Goals as goal
-use Rattle.states.proofs.build.states_of.Goals.{then_loop_states_test+else_len_lt_STATES, else-loop-states-test}
+use Rattle.states.proofs.build.states_of.Goals.{then-loop-states-test+else-len-lt-STATES, else-loop-states-test}
 
 pub loop-states-init : goal.loop-states-init
 loop-states-init c =
@@ -19,35 +19,35 @@ loop-states-init c =
           c.requires.numbers none_yet,
     )
 
-pub state-of-requires : goal.state-of-requires
-state-of-requires c = record
+pub state_of-requires : goal.state_of-requires
+state_of-requires c = record
     { few = c.requires.few; right = c.loop-states.invariant.2; numbers = c.loop-states.invariant.3.numbers }
 
 pub loop-states-preserved : goal.loop-states-preserved
 loop-states-preserved c =
     let rules = c.args.rules.now in
     let old = c.loop-states.w in
-    let new = c.state-of.new.w in
+    let new = c.state_of.new.w in
     let before = vec_items c.loop-states.numbers in
-    let after = vec_items c.state-of.new.numbers in
+    let after = vec_items c.state_of.new.numbers in
     let states = map plain (vec_items c.loop-states.states) in
-    let p : Plain = plain c.in-ok-state.state in
-    let MadeSo = c.in-ok-state.ensures in
+    let p : Plain = plain c.in_ok-state.state in
+    let MadeSo = c.in_ok-state.ensures in
     let so_far = c.loop-states.invariant.3 in
     let right = c.loop-states.invariant.2 in
     let pushed : map plain (vec_items c.push.new.self) ≡ states ++ p ∷ [] =
-    ap (map plain) c.in-ok-push.ensures.items ∙ map_push plain (vec_items c.loop-states.states) c.in-ok-state.state in
+    ap (map plain) c.in_ok-push.ensures.items ∙ map_push plain (vec_items c.loop-states.states) c.in_ok-state.state in
     let ok_states = c.loop-states.states.ok.0 in
     let ok_numbers = c.loop-states.numbers.ok.0 in
-    let ok_after = c.state-of.new.numbers.ok.0 in
-    let ok_ders = c.in-ok-state.state.derivatives.ok.0 in
+    let ok_after = c.state_of.new.numbers.ok.0 in
+    let ok_ders = c.in_ok-state.state.derivatives.ok.0 in
     let count = length-map (vec_items c.loop-states.states) plain in
     let lt : length states < length before = omega arith in
     let sum = c.loop-states.invariant.0 in
     let few = so_far.few in
     let enough : total states + length p.derivatives ≤ 512 = omega arith in
     let long = extends_long before after MadeSo.extends in
-    let longer = c.in-ok-push.ensures.len in
+    let longer = c.in_ok-push.ensures.len in
     let read : c.index.result.now ≡ get_or before (length states) c.index.result.now =
     c.index.ensures ∙ ap (λ k. get_or before k c.index.result.now) (omega arith) in (
       (let t = total_more states p in let u = ap total pushed in omega arith),
@@ -68,7 +68,7 @@ returns c =
     let le = inv.1 in
     let whole : length (vec_items c.loop-states.numbers) ≤ vec_len c.loop-states.states =
     elim c.loop-states-test.branch [
-      | then_loop_states_test+else_len_lt_STATES w ↦ omega (arith, w.if-len-lt-STATES.false, w.len-in-loop-states-2.ensures)
+      | then-loop-states-test+else-len-lt-STATES w ↦ omega (arith, w.if-len-lt-STATES.false, w.len-in-loop-states-2.ensures)
       | else-loop-states-test w ↦ omega (arith, w.loop-states-test.false)
     ] in
     record { so_far = inv.3; right = inv.2; count = omega arith }

@@ -14,7 +14,7 @@ use Rattle.states.specs.Memo.{Sound}
 use Rattle.states.specs.Derive.{State, On, Goes, Went, Lists, Inside}
 use Rattle.states.proofs.Going.{state_nulls, Then, turn_ready, arm_seq, arm_star, null_told, then_some, then_none, on_same, on_next, lists_none, inside_none, told_none, noted_lists, at_node, into, arm_none, arm_simple, arm_element, arm_rule, arm_union, arm_first, arm_noted, first_later, second_in, seq_first, star_first, union_first, on_nulls, seq_step, star_step, null_later, inside_longer}
 use Rattle.states.proofs.derive.+derive.Goals as goal
-use Rattle.states.proofs.derive.+derive.Goals.{in_Nothing, in_Simple+in_ok_span, in_Element+in_ok_span_2, in_Rule+then_k_rule+in_ok_span_3, in_Rule+else_k_rule, in_Union+in_ok_left+in_ok_right+in_ok_span_4, in_Seq+in_ok_first+in_ok_span_5, then_nullable+in_ok_then, else_nullable, in_Star+in_ok_first_2+in_ok_span_6}
+use Rattle.states.proofs.derive.+derive.Goals.{in-Nothing, in_Simple+in_ok_span, in_Element+in_ok_span_2, in_Rule+then_k_rule+in_ok_span_3, in_Rule+else_k_rule, in_Union+in_ok_left+in_ok_right+in_ok_span_4, in_Seq+in_ok_first+in_ok_span_5, then_nullable+in_ok_then, else_nullable, in_Star+in_ok_first_2+in_ok_span_6}
 
 pub returns-then-node-len : goal.returns-then-node-len
 returns-then-node-len t c =
@@ -39,7 +39,7 @@ returns-in-Some t c =
     let small : c.args.node < 512 = omega arith in (
       on_same bodies e nodes nulls found spans c.requires.right,
       noted_lists bodies e nodes nulls found spans c.args.rule c.args.node c.in-Some.span small c.requires.right
-          (c.in-Some.ensures ∙ ap (λ (l : List (Option Span)). get_or l (c.args.rule * 512 + c.args.node) None) c.as-slice.ensures.value),
+          (c.in-Some.ensures ∙ ap (λ (l : List (Option Span)). get_or l (c.args.rule * 512 + c.args.node) None) c.as_slice.ensures.value),
     )
 
 pub derive-requires : goal.derive-requires
@@ -51,15 +51,15 @@ derive-requires t c = (
 pub derive-requires-in-Union : goal.derive-requires-in-Union
 derive-requires-in-Union t c =
     let small : c.args.node < 512 = omega arith in (
-      part_falls t c.args.rule c.args.node c.in-Union.a c.earlier-of.result c.decreases small c.earlier-of.ensures,
+      part_falls t c.args.rule c.args.node c.in-Union.a c.earlier_of.result c.decreases small c.earlier_of.ensures,
       (c.requires.small, (c.requires.few, c.requires.right)),
     )
 
 pub derive-requires-in-Union-2 : goal.derive-requires-in-Union-2
 derive-requires-in-Union-2 t c =
     let small : c.args.node < 512 = omega arith in (
-      part_falls t c.args.rule c.args.node c.in-Union.b c.earlier-of-in-Union.result c.decreases small c.earlier-of-in-Union.ensures,
-      (c.requires.small, (c.requires.few, c.in-ok-left.ensures.0.state)),
+      part_falls t c.args.rule c.args.node c.in-Union.b c.earlier_of-in-Union.result c.decreases small c.earlier_of-in-Union.ensures,
+      (c.requires.small, (c.requires.few, c.in_ok-left-in-Union.ensures.0.state)),
     )
 
 pub of-union-requires : goal.of-union-requires
@@ -75,30 +75,30 @@ of-union-requires t c =
 pub derive-requires-in-Seq : goal.derive-requires-in-Seq
 derive-requires-in-Seq t c =
     let small : c.args.node < 512 = omega arith in (
-      part_falls t c.args.rule c.args.node c.in-Seq.a c.earlier-of-in-Seq.result c.decreases small c.earlier-of-in-Seq.ensures,
+      part_falls t c.args.rule c.args.node c.in-Seq.a c.earlier_of-in-Seq.result c.decreases small c.earlier_of-in-Seq.ensures,
       (c.requires.small, (c.requires.few, c.requires.right)),
     )
 
 pub nullable-requires : goal.nullable-requires
 nullable-requires t c =
-    let st = c.in-ok-first.ensures.0.state in
+    let st = c.in_ok-first-in-Seq.ensures.0.state in
     let bodies = vec_items c.args.rules.now.bodies in
     record {
       small = (let few = c.requires.few in omega arith);
-      few = subst (λ l. length l ≤ 512) (sym c.as-slice-in-Seq.ensures.value) st.fine.0;
-      sound = subst (λ l. Sound l bodies c.as-mut-slice.result.now) (sym c.as-slice-in-Seq.ensures.value)
-          (subst (λ l. Sound (vec_items c.derive-in-Seq.new.w.nodes) bodies l) (sym c.as-mut-slice.ensures.value) st.sound);
+      few = subst (λ l. length l ≤ 512) (sym c.as_slice-in-Seq.ensures.value) st.fine.0;
+      sound = subst (λ l. Sound l bodies c.as_mut_slice.result.now) (sym c.as_slice-in-Seq.ensures.value)
+          (subst (λ l. Sound (vec_items c.derive-in-Seq.new.w.nodes) bodies l) (sym c.as_mut_slice.ensures.value) st.sound);
     }
 
 pub derive-requires-then-nullable : goal.derive-requires-then-nullable
 derive-requires-then-nullable t c =
     let small : c.args.node < 512 = omega arith in
-    let p = c.in-ok-first.ensures in
+    let p = c.in_ok-first-in-Seq.ensures in
     let nodes = vec_items c.derive-in-Seq.new.w.nodes in
     let bodies = vec_items c.args.rules.now.bodies in
     let v = c.derive-in-Seq.new.w.nulls in
     let ws = c.nullable.new.memo in
-    let long : length ws ≡ v.len = omega (arith, c.nullable.auto.memo, c.as-mut-slice.ensures.len) in
+    let long : length ws ≡ v.len = omega (arith, c.nullable.auto.memo, c.as_mut_slice.ensures.len) in
     let sound : Sound nodes bodies ws = subst (λ l. Sound l bodies ws) c.as-slice-in-Seq.ensures.value c.nullable.ensures.sound in (
       part_falls t c.args.rule c.args.node c.in-Seq.b c.earlier-of-then-nullable.result c.decreases small c.earlier-of-then-nullable.ensures,
       (
@@ -155,7 +155,7 @@ of-first-requires t c =
 pub derive-requires-in-Star : goal.derive-requires-in-Star
 derive-requires-in-Star t c =
     let small : c.args.node < 512 = omega arith in (
-      part_falls t c.args.rule c.args.node c.in-Star.a c.earlier-of-in-Star.result c.decreases small c.earlier-of-in-Star.ensures,
+      part_falls t c.args.rule c.args.node c.in-Star.a c.earlier_of-in-Star.result c.decreases small c.earlier_of-in-Star.ensures,
       (c.requires.small, (c.requires.few, c.requires.right)),
     )
 
@@ -194,7 +194,7 @@ returns t c =
     let x = c.index.result.now in
     let P : Type 0 = Went rules₀ old c.match-index.w r i c.match-index.span in
     let found₀ : P = elim c.match-index.branch [
-      | in_Nothing w ↦ into rules₀ old c.match-index.w old r i c.match-index.span w.nowhere-span.result w.w-is w.span-is
+      | in-Nothing w ↦ into rules₀ old c.match-index.w old r i c.match-index.span w.nowhere-span.result w.w-is w.span-is
           (⊎_elim
           (λ q. arm_none bodies₀ e n₀ k₀ f₀ s₀ r i w.nowhere-span.result Nothing st lt₀ (at_node n₀ i x Nothing lt₀ c.index.ensures q) refl w.nowhere-span.ensures)
           (λ q. arm_none bodies₀ e n₀ k₀ f₀ s₀ r i w.nowhere-span.result Empty st lt₀ (at_node n₀ i x Empty lt₀ c.index.ensures q) refl w.nowhere-span.ensures)

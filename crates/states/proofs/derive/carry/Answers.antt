@@ -9,9 +9,9 @@ loop-i-preserved c =
       omega arith,
       omega arith,
       carry_more (vec_items c.loop-i.list) (vec_items c.enter.new.records) (vec_items c.args.list.now) c.args.found.now c.args.span
-          c.loop-i.i c.in-ok-enter.field-0 (get_or c.args.found.now c.loop-i.i (0, 0, 0))
+          c.loop-i.i c.in_ok-enter.field-0 (get_or c.args.found.now c.loop-i.i (0, 0, 0))
           c.loop-i-test.true c.requires.1 (get_or_default c.args.found.now c.loop-i.i (0, 0, 0) _ within)
-          c.in-ok-enter.ensures c.loop-i.invariant.2,
+          c.in_ok-enter.ensures c.loop-i.invariant.2,
     )
 
 pub returns : goal.returns

@@ -40,9 +40,9 @@ loop-i-preserved c =
     let d = get_or found i (0, 0, 0) in
     joined_more old (vec_items c.loop-i.nodes) (vec_items c.joined.new.nodes) (vec_items c.args.list.now)
     (vec_items c.loop-i.list) (vec_items c.enter.new.records) found c.args.span c.args.s i
-    c.in-ok-enter.field-0 c.in-ok-tail.tail d
+    c.in_ok-enter.field-0 c.in_ok-tail.tail d
     c.loop-i-test.true end c.requires.found c.requires.s (get_or_default found i (0, 0, 0) d within)
-    c.loop-i.invariant c.in-ok-tail.ensures c.in-ok-enter.ensures
+    c.loop-i.invariant c.in_ok-tail.ensures c.in_ok-enter.ensures
 
 pub returns : goal.returns
 returns c =

@@ -7,11 +7,11 @@ use Rattle.states.proofs.grammar.moved.Goals as goal
 
 pub placed-requires-in-Union-2 : goal.placed-requires-in-Union-2
 placed-requires-in-Union-2 c =
-    let p = c.in-ok-left.ensures in
+    let p = c.in_ok-left-in-Union.ensures in
     record {
       fine = p.0;
       below = below_then (vec_items c.args.nodes.now) (vec_items c.placed-in-Union.new.nodes) c.args.places.now
-          c.in-ok-left.left _ p c.requires.below;
+          c.in_ok-left-in-Union.left _ p c.requires.below;
     }
 
 pub placed-requires-in-Seq-2 : goal.placed-requires-in-Seq-2

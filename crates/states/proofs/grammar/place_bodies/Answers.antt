@@ -31,13 +31,13 @@ loop-body-preserved c =
     let file = c.args.file.now in
     let k = c.loop-body.body-index in
     let count = c.loop-body.invariant.0 in
-    let longer = c.in-ok-push.ensures.len in
-    let next = next_body first old new places (vec_items c.loop-body.bodies) file k c.in-ok-number.number
-    c.loop-body-test.true c.requires.below c.loop-body.invariant.1 c.loop-body.invariant.2 c.in-ok-number.ensures in (
+    let longer = c.in_ok-push.ensures.len in
+    let next = next_body first old new places (vec_items c.loop-body.bodies) file k c.in_ok-number.number
+    c.loop-body-test.true c.requires.below c.loop-body.invariant.1 c.loop-body.invariant.2 c.in_ok-number.ensures in (
       omega arith,
       next.0,
       subst (λ l. StandFor new l (map (λ n. get_or (shown first places) n none) (take (k + 1) file)))
-          (sym c.in-ok-push.ensures.items) next.1,
+          (sym c.in_ok-push.ensures.items) next.1,
     )
 
 pub returns : goal.returns

@@ -14,9 +14,9 @@ loop-k-init c = (
 pub loop-k-preserved : goal.loop-k-preserved
 loop-k-preserved c =
     let next = next_mention (vec_items c.args.nodes.now) (vec_items c.loop-k.nodes) (vec_items c.enter.new.records)
-    (vec_items c.loop-k.mentions) c.loop-k.k c.in-ok-number.number
-    c.loop-k.invariant.0 c.loop-k.invariant.1 c.in-ok-number.ensures in (
+    (vec_items c.loop-k.mentions) c.loop-k.k c.in_ok-number.number
+    c.loop-k.invariant.0 c.loop-k.invariant.1 c.in_ok-number.ensures in (
       next.0,
       subst (λ l. StandFor (vec_items c.enter.new.records) l (mentions (c.loop-k.k + 1)))
-          (sym c.in-ok-push.ensures.items) next.1,
+          (sym c.in_ok-push.ensures.items) next.1,
     )

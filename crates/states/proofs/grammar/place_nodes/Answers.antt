@@ -23,15 +23,15 @@ loop-node-preserved c =
     let file = c.args.file.now in
     let k = c.loop-node.node-index in
     let s = c.loop-node.invariant.1 in
-    let m : Moved old mid c.in-ok-here.here (of_node (shown old places) (get_or file k Nothing)) =
-    subst (λ l. Moved old mid c.in-ok-here.here (of_node (shown old l) (get_or file k Nothing)))
-    c.as-slice.ensures.value c.in-ok-here.ensures in
+    let m : Moved old mid c.in_ok-here.here (of_node (shown old places) (get_or file k Nothing)) =
+    subst (λ l. Moved old mid c.in_ok-here.here (of_node (shown old l) (get_or file k Nothing)))
+    c.as_slice.ensures.value c.in_ok-here.ensures in
     let count = c.loop-node.invariant.0 in
-    let longer = c.in-ok-push.ensures.len in (
+    let longer = c.in_ok-push.ensures.len in (
       omega arith,
-      subst (λ l. StandFor new l (trees (take (k + 1) file))) (sym c.in-ok-push.ensures.items)
-          (next_node old mid new places file k c.in-ok-number.number c.in-ok-here.here
-          c.loop-node-test.true s m c.in-ok-number.ensures),
+      subst (λ l. StandFor new l (trees (take (k + 1) file))) (sym c.in_ok-push.ensures.items)
+          (next_node old mid new places file k c.in_ok-number.number c.in_ok-here.here
+          c.loop-node-test.true s m c.in_ok-number.ensures),
     )
 
 pub returns : goal.returns

@@ -7,7 +7,7 @@ use Rattle.expressions.proofs.Nulls.{null_past}
 use Rattle.states.specs.Memo.{Sound}
 use Rattle.states.proofs.Memos.{says_yes, says_no, noted, by_arm, at_part, or_then, or_else, and_then, and_else}
 use Rattle.states.proofs.nullable.+nullable.Goals as goal
-use Rattle.states.proofs.nullable.+nullable.Goals.{in_Nothing, in_Empty, in_Rule+then_k_rule, in_Rule+else_k_rule, in_Union+then_left, in_Union+else_left, in_Seq+then_left_2, in_Seq+else_left_2}
+use Rattle.states.proofs.nullable.+nullable.Goals.{in-Nothing, in-Empty, in_Rule+then_k_rule, in_Rule+else_k_rule, in_Union+then_left, in_Union+else_left, in_Seq+then_left_2, in_Seq+else_left_2}
 
 pub nullable-requires : goal.nullable-requires
 nullable-requires t c = (
@@ -18,28 +18,28 @@ nullable-requires t c = (
 pub nullable-left-requires : goal.nullable-left-requires
 nullable-left-requires t c =
     let small : c.args.node < 512 = omega arith in (
-      part_falls t c.args.rule c.args.node c.in-Union.a c.earlier-of.result c.decreases small c.earlier-of.ensures,
+      part_falls t c.args.rule c.args.node c.in-Union.a c.earlier_of.result c.decreases small c.earlier_of.ensures,
       (c.requires.small, (c.requires.few, c.requires.sound)),
     )
 
 pub nullable-right-requires : goal.nullable-right-requires
 nullable-right-requires t c =
     let small : c.args.node < 512 = omega arith in (
-      part_falls t c.args.rule c.args.node c.in-Union.b c.earlier-of-in-Union.result c.decreases small c.earlier-of-in-Union.ensures,
+      part_falls t c.args.rule c.args.node c.in-Union.b c.earlier_of-in-Union.result c.decreases small c.earlier_of-in-Union.ensures,
       (c.requires.small, (c.requires.few, c.nullable-left.ensures.sound)),
     )
 
 pub nullable-left-requires-in-Seq : goal.nullable-left-requires-in-Seq
 nullable-left-requires-in-Seq t c =
     let small : c.args.node < 512 = omega arith in (
-      part_falls t c.args.rule c.args.node c.in-Seq.a c.earlier-of-in-Seq.result c.decreases small c.earlier-of-in-Seq.ensures,
+      part_falls t c.args.rule c.args.node c.in-Seq.a c.earlier_of-in-Seq.result c.decreases small c.earlier_of-in-Seq.ensures,
       (c.requires.small, (c.requires.few, c.requires.sound)),
     )
 
 pub nullable-right-requires-in-Seq : goal.nullable-right-requires-in-Seq
 nullable-right-requires-in-Seq t c =
     let small : c.args.node < 512 = omega arith in (
-      part_falls t c.args.rule c.args.node c.in-Seq.b c.earlier-of-in-Seq-2.result c.decreases small c.earlier-of-in-Seq-2.ensures,
+      part_falls t c.args.rule c.args.node c.in-Seq.b c.earlier_of-in-Seq-2.result c.decreases small c.earlier_of-in-Seq-2.ensures,
       (c.requires.small, (c.requires.few, c.nullable-left-in-Seq.ensures.sound)),
     )
 
@@ -75,14 +75,14 @@ returns t c =
     let b = c.match-nodes-node.answer in
     let P : Type 0 = (c.match-nodes-node.answer ≡ null_node nodes bodies r i (get_or nodes i Nothing)) × Sound nodes bodies c.match-nodes-node.memo in
     let found : P = elim c.match-nodes-node.branch [
-      | in_Nothing w ↦ (
+      | in-Nothing w ↦ (
         ⊎_elim (λ e. by_arm nodes bodies r i b false Nothing w.answer-is e refl)
             (⊎_elim (λ e. by_arm nodes bodies r i b false (Simple e.0) w.answer-is e.1 refl)
             (λ e. by_arm nodes bodies r i b false (Element e.0 e.1) w.answer-is e.2 refl))
             w.in-Nothing.is,
         subst (Sound nodes bodies) (sym w.memo-is) c.requires.sound,
       )
-      | in_Empty w ↦ (
+      | in-Empty w ↦ (
         ⊎_elim (λ e. by_arm nodes bodies r i b true Empty w.answer-is e refl)
             (λ e. by_arm nodes bodies r i b true (Star e.0) w.answer-is e.1 refl)
             w.in-Empty.is,

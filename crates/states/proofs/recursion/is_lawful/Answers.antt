@@ -18,17 +18,17 @@ pub loop-node-preserved : goal.loop-node-preserved
 loop-node-preserved c =
     let nodes = c.args.nodes.now in
     let bodies = vec_items c.args.rules.now.bodies in
-    let w = c.ways-of-ways.result in
+    let w = c.ways_of-ways.result in
     let table = vec_items c.loop-node.table in
     let next : w ≡ ways_from nodes bodies c.args.k (length table) =
-    c.ways-of-ways.ensures.value ∙ ap (λ l. ways_from nodes bodies c.args.k (length l)) c.as-slice.ensures.value in
-    let pushed = c.in-ok-push.ensures.items in
-    let longer = c.in-ok-push.ensures.len in
+    c.ways_of-ways.ensures.value ∙ ap (λ l. ways_from nodes bodies c.args.k (length l)) c.as_slice.ensures.value in
+    let pushed = c.in_ok-push.ensures.items in
+    let longer = c.in_ok-push.ensures.len in
     let len = c.loop-node.invariant.0 in (
       omega arith,
       subst (Filled nodes bodies c.args.k) (sym pushed)
           (filled_more nodes bodies c.args.k table w c.loop-node.invariant.1 next),
-      c.ways-of-ways.ensures.sound,
+      c.ways_of-ways.ensures.sound,
     )
 
 pub returns : goal.returns
@@ -39,8 +39,8 @@ returns c =
     let len = c.loop-node.invariant.0 in
     let ok = c.loop-node.table.ok.0 in
     let whole : length nodes ≤ length table = omega arith in
-    let read : c.ways-at.result ≡ get_or table (body_at bodies c.args.k) no_ways =
-    c.ways-at.ensures ∙ ap (λ l. get_or l c.body.result no_ways) c.as-slice-2.ensures.value
+    let read : c.ways_at.result ≡ get_or table (body_at bodies c.args.k) no_ways =
+    c.ways_at.ensures ∙ ap (λ l. get_or l c.body.result no_ways) c.as_slice-2.ensures.value
     ∙ ap (λ i. get_or table i no_ways) c.body.ensures in
     record {
       value = ap (λ (w : Ways). not w.free) read

@@ -5,4 +5,4 @@ use Rattle.states.proofs.recursion.ways_at.Goals as goal
 
 pub returns-else-c-table : goal.returns-else-c-table
 returns-else-c-table c =
-    c.no-ways.ensures ∙ sym (get_or_past c.args.table.now c.args.c no_ways c.if-c-table.false)
+    c.no_ways.ensures ∙ sym (get_or_past c.args.table.now c.args.c no_ways c.if-c-table.false)

@@ -8,10 +8,10 @@ pub returns-in-Nothing : goal.returns-in-Nothing
 returns-in-Nothing c =
     let at = next_ways c.args.nodes.now (vec_items c.args.rules.now.bodies) c.args.k c.args.table.now c.args.node in
     record {
-      value = ⊎_elim (λ e. at Nothing c.no-ways.result c.requires.next c.requires.few c.requires.node e c.no-ways.ensures)
-          (⊎_elim (λ e. at Empty c.no-ways.result c.requires.next c.requires.few c.requires.node e c.no-ways.ensures)
-          (⊎_elim (λ e. at (Simple e.0) c.no-ways.result c.requires.next c.requires.few c.requires.node e.1 c.no-ways.ensures)
-          (λ e. at (Element e.0 e.1) c.no-ways.result c.requires.next c.requires.few c.requires.node e.2 c.no-ways.ensures)))
+      value = ⊎_elim (λ e. at Nothing c.no_ways.result c.requires.next c.requires.few c.requires.node e c.no_ways.ensures)
+          (⊎_elim (λ e. at Empty c.no_ways.result c.requires.next c.requires.few c.requires.node e c.no_ways.ensures)
+          (⊎_elim (λ e. at (Simple e.0) c.no_ways.result c.requires.next c.requires.few c.requires.node e.1 c.no_ways.ensures)
+          (λ e. at (Element e.0 e.1) c.no_ways.result c.requires.next c.requires.few c.requires.node e.2 c.no_ways.ensures)))
           c.in-Nothing.is;
       sound = c.requires.sound;
     }
@@ -28,27 +28,27 @@ returns-in-Union c = record {
   value = next_ways c.args.nodes.now (vec_items c.args.rules.now.bodies) c.args.k c.args.table.now c.args.node
       (Union c.in-Union.a c.in-Union.b) c.either.result c.requires.next c.requires.few c.requires.node c.in-Union.is
       (union_ways c.args.nodes.now (vec_items c.args.rules.now.bodies) c.args.k c.args.table.now
-      c.in-Union.a c.in-Union.b c.ways-at.result c.ways-at-in-Union.result c.either.result
-      c.requires.few c.requires.filled c.ways-at.ensures c.ways-at-in-Union.ensures c.either.ensures);
+      c.in-Union.a c.in-Union.b c.ways_at.result c.ways_at-in-Union.result c.either.result
+      c.requires.few c.requires.filled c.ways_at.ensures c.ways_at-in-Union.ensures c.either.ensures);
   sound = c.requires.sound;
 }
 
 pub returns-in-Seq : goal.returns-in-Seq
 returns-in-Seq c = record {
   value = next_ways c.args.nodes.now (vec_items c.args.rules.now.bodies) c.args.k c.args.table.now c.args.node
-      (Seq c.in-Seq.a c.in-Seq.b) c.in-turn.result c.requires.next c.requires.few c.requires.node c.in-Seq.is
+      (Seq c.in-Seq.a c.in-Seq.b) c.in_turn.result c.requires.next c.requires.few c.requires.node c.in-Seq.is
       (seq_ways c.args.nodes.now (vec_items c.args.rules.now.bodies) c.args.k c.args.table.now
-      c.in-Seq.a c.in-Seq.b c.earlier-of.result c.ways-at-in-Seq.result c.ways-at-in-Seq-2.result c.in-turn.result
-      c.nullable-left-nullable.result c.requires.few c.requires.filled c.ways-at-in-Seq.ensures c.ways-at-in-Seq-2.ensures
-      c.earlier-of.ensures c.nullable-left-nullable.ensures.value c.in-turn.ensures);
-  sound = c.nullable-left-nullable.ensures.sound;
+      c.in-Seq.a c.in-Seq.b c.earlier_of.result c.ways_at-in-Seq.result c.ways_at-in-Seq-2.result c.in_turn.result
+      c.nullable-left_nullable.result c.requires.few c.requires.filled c.ways_at-in-Seq.ensures c.ways_at-in-Seq-2.ensures
+      c.earlier_of.ensures c.nullable-left_nullable.ensures.value c.in_turn.ensures);
+  sound = c.nullable-left_nullable.ensures.sound;
 }
 
 pub returns-in-Star : goal.returns-in-Star
 returns-in-Star c = record {
   value = next_ways c.args.nodes.now (vec_items c.args.rules.now.bodies) c.args.k c.args.table.now c.args.node
-      (Star c.in-Star.a) (bent_ways c.ways-at-bent.result) c.requires.next c.requires.few c.requires.node c.in-Star.is
+      (Star c.in-Star.a) (bent_ways c.ways_at-bent.result) c.requires.next c.requires.few c.requires.node c.in-Star.is
       (star_ways c.args.nodes.now (vec_items c.args.rules.now.bodies) c.args.k c.args.table.now
-      c.in-Star.a c.ways-at-bent.result c.requires.few c.requires.filled c.ways-at-bent.ensures);
+      c.in-Star.a c.ways_at-bent.result c.requires.few c.requires.filled c.ways_at-bent.ensures);
   sound = c.requires.sound;
 }

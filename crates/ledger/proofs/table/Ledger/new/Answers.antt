@@ -6,5 +6,5 @@ use Rattle.ledger.proofs.table.Ledger.new.Goals as goal
 
 pub returns : goal.returns
 returns c =
-    let e = c.in_ok-pairs.ensures.items-if-clones-equal (λ y h. h) in
+    let e = c.in_ok-pairs.ensures.items_if_clones_equal (λ y h. h) in
     place_blank (vec_items c.in_ok-pairs.pairs) (λ k. ap (λ (xs : List Settled). get_or xs k Unsettled) e ∙ replicated 1024 k)

@@ -6,7 +6,7 @@ use Rattle.sides.proofs.covers.Covers.row.Goals as goal
 pub returns-then-h-len : goal.returns-then-h-len
 returns-then-h-len c =
     let within : c.args.h < length (vec_items c.args.self.now.table) = omega (arith, c.args.self.now.table.ok.0) in
-    c.as-slice.ensures.value ∙ ap vec_items c.index.ensures
+    c.as_slice.ensures.value ∙ ap vec_items c.index.ensures
     ∙ sym (get_or-map vec_items (vec_items c.args.self.now.table) c.args.h c.index.result.now [] within)
 
 pub returns-else-h-len : goal.returns-else-h-len
