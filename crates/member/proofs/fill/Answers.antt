@@ -11,7 +11,7 @@ use Rattle.member.proofs.Filling.{filling_start, filled_at, filling_more}
 use Rattle.member.proofs.fill.Goals as goal
 
 pub loop-k-init : goal.loop-k-init
-loop-k-init c = filling_start _ _ _ (omega (arith, c.requires)) c.empty-set.ensures
+loop-k-init c = filling_start _ _ _ (omega (arith, c.requires)) c.empty_set.ensures
 
 pub loop-k-preserved : goal.loop-k-preserved
 unfolding item_set
@@ -19,15 +19,15 @@ loop-k-preserved c =
     let m : Machine = view c.args.machine.now c.args.covers.now in
     let i : Item = get_or c.args.items.now c.loop-k.k blank_item in
     let done : List Item = take c.loop-k.k c.args.items.now in
-    let inside = filled_at m c.loop-k.sets done (c.loop-k.k + 1) i.child c.set-of-inside.result.bits
-    c.loop-k.invariant.0 c.loop-k.invariant.1 c.set-of-inside.ensures in
-    let following = filled_at m c.loop-k.sets done (c.loop-k.k + 1) i.next c.set-of-following.result.bits
-    c.loop-k.invariant.0 c.loop-k.invariant.1 c.set-of-following.ensures in
-    let same : c.item-set.result.bits ≡ item_set m (state_sets m done) i =
-    c.item-set.ensures ∙ ap₂ (λ a b. gather (length m.states) (takes m i.name a b)) inside following in
+    let inside = filled_at m c.loop-k.sets done (c.loop-k.k + 1) i.child c.set_of-inside.result.bits
+    c.loop-k.invariant.0 c.loop-k.invariant.1 c.set_of-inside.ensures in
+    let following = filled_at m c.loop-k.sets done (c.loop-k.k + 1) i.next c.set_of-following.result.bits
+    c.loop-k.invariant.0 c.loop-k.invariant.1 c.set_of-following.ensures in
+    let same : c.item_set.result.bits ≡ item_set m (state_sets m done) i =
+    c.item_set.ensures ∙ ap₂ (λ a b. gather (length m.states) (takes m i.name a b)) inside following in
     let room : length c.args.items.now < length c.loop-k.sets =
-    omega (arith, length-set c.args.sets.now 0 c.empty-set.result) in
-    filling_more m c.loop-k.sets c.args.items.now c.loop-k.k i c.item-set.result
+    omega (arith, length-set c.args.sets.now 0 c.empty_set.result) in
+    filling_more m c.loop-k.sets c.args.items.now c.loop-k.k i c.item_set.result
     c.loop-k-test.true room c.loop-k.invariant.0 c.loop-k.invariant.1 refl same
 
 pub returns : goal.returns

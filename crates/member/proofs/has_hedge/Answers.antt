@@ -14,10 +14,10 @@ returns-in-Some c =
     let m : Machine = view c.args.machine.now c.args.covers.now in
     ap (λ (b : Bool). Some b) c.contains.ensures
     ∙ told_some (ltb (length c.args.items.now) (length c.args.sets.now)) (spelled_set m c.args.items.now) c.in-Some.set
-    (λ (s : StateSet). has s.bits c.args.q) (sym c.in-Some.is ∙ c.hedge-states.ensures)
+    (λ (s : StateSet). has s.bits c.args.q) (sym c.in-Some.is ∙ c.hedge_states.ensures)
 
 pub returns-in-None : goal.returns-in-None
 returns-in-None c =
     let m : Machine = view c.args.machine.now c.args.covers.now in
     told_none (ltb (length c.args.items.now) (length c.args.sets.now)) (spelled_set m c.args.items.now)
-    (has_spelled m c.args.items.now c.args.q) (sym c.in-None.is ∙ c.hedge-states.ensures)
+    (has_spelled m c.args.items.now c.args.q) (sym c.in-None.is ∙ c.hedge_states.ensures)

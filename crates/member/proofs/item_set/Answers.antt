@@ -4,12 +4,12 @@ use Rattle.meaning.specs.Tables.{gather, takes}
 use Rattle.sides.specs.View.{view}
 use Rattle.member.proofs.Gather.{gather_with, gather_same}
 use Rattle.member.proofs.item_set.Goals as goal
-use Rattle.member.proofs.item_set.Goals.{then-takes-item, else-takes-item}
+use Rattle.member.proofs.item_set.Goals.{then-takes_item, else-takes_item}
 
 pub loop-q-preserved : goal.loop-q-preserved
-loop-q-preserved c = elim c.if-takes-item.branch [
-  | then-takes-item w ↦ ap (λ s. s.bits) w.set-is ∙ gather_with (takes (view c.args.machine.now c.args.covers.now) c.args.t c.args.inside.bits c.args.following.bits) c.loop-q.q w.with-set.ensures c.loop-q.invariant c.takes-item.ensures w.if-takes-item.true
-  | else-takes-item w ↦ ap (λ s. s.bits) w.set-is ∙ gather_same (takes (view c.args.machine.now c.args.covers.now) c.args.t c.args.inside.bits c.args.following.bits) c.loop-q.q c.loop-q.invariant c.takes-item.ensures w.if-takes-item.false
+loop-q-preserved c = elim c.if-takes_item.branch [
+  | then-takes_item w ↦ ap (λ s. s.bits) w.set-is ∙ gather_with (takes (view c.args.machine.now c.args.covers.now) c.args.t c.args.inside.bits c.args.following.bits) c.loop-q.q w.with-set.ensures c.loop-q.invariant c.takes_item.ensures w.if-takes_item.true
+  | else-takes_item w ↦ ap (λ s. s.bits) w.set-is ∙ gather_same (takes (view c.args.machine.now c.args.covers.now) c.args.t c.args.inside.bits c.args.following.bits) c.loop-q.q c.loop-q.invariant c.takes_item.ensures w.if-takes_item.false
 ]
 
 pub returns : goal.returns

@@ -17,16 +17,16 @@ loop-k-preserved c =
     let S : Row → Bool = shown (at c.args.grounds.now.ledger.now) c.args.grounds.now.rules c.args.grounds.now.rows.now in
     first_more (subset_gap m S c.args.row.now c.loop-t.t c.loop-i.i) c.loop-k.k c.loop-k.invariant
     (subset_none m S c.args.row.now c.loop-t.t c.loop-i.i c.loop-k.k c.derivatives-derivatives.result.now
-    (take (c.put-pairs-number.result - 0) c.put-pairs-number.new.records) c.is-unshown.result
-    c.derivatives-derivatives.ensures (cut_known _ _ c.put-pairs-number.result c.put-pairs-number.ensures.written)
-    c.is-unshown.ensures c.if-is-unshown.false)
+    (take (c.put_pairs-number.result - 0) c.put_pairs-number.new.records) c.is_unshown.result
+    c.derivatives-derivatives.ensures (cut_known _ _ c.put_pairs-number.result c.put_pairs-number.ensures.written)
+    c.is_unshown.ensures c.if-is_unshown.false)
 
 pub loop-i-preserved : goal.loop-i-preserved
 loop-i-preserved c =
     let m : Machine = view c.args.machine.now c.args.covers.now in
     let S : Row → Bool = shown (at c.args.grounds.now.ledger.now) c.args.grounds.now.rules c.args.grounds.now.rows.now in
-    let number = counted m c.args.row.now c.loop-t.t c.loop-i.i c.put-pairs-number.result c.derivatives-derivatives.result.now
-    c.subsets-k-end.result c.derivatives-derivatives.ensures c.put-pairs-number.ensures.number c.subsets-k-end.ensures in
+    let number = counted m c.args.row.now c.loop-t.t c.loop-i.i c.put_pairs-number.result c.derivatives-derivatives.result.now
+    c.subsets-k-end.result c.derivatives-derivatives.ensures c.put_pairs-number.ensures.number c.subsets-k-end.ensures in
     let all : c.loop-k.k ≡ c.subsets-k-end.result = omega arith in
     first_more (derivative_gap m S c.args.row.now c.loop-t.t) c.loop-i.i c.loop-i.invariant
     (derivative_none m S c.args.row.now c.loop-t.t c.loop-i.i c.loop-k.k (all ∙ number) c.loop-k.invariant)
@@ -51,21 +51,21 @@ loop-t-preserved-then-not-labelled c =
           (name_unlabelled m S c.args.row.now c.loop-t.t (sym c.labelled.ensures ∙ c.if-not-labelled.true)),
     )
 
-pub returns-then-is-unshown : goal.returns-then-is-unshown
-returns-then-is-unshown c =
+pub returns-then-is_unshown : goal.returns-then-is_unshown
+returns-then-is_unshown c =
     let m : Machine = view c.args.machine.now c.args.covers.now in
     let S : Row → Bool = shown (at c.args.grounds.now.ledger.now) c.args.grounds.now.rules c.args.grounds.now.rows.now in
-    let number = counted m c.args.row.now c.loop-t.t c.loop-i.i c.put-pairs-number.result c.derivatives-derivatives.result.now
-    c.subsets-k-end.result c.derivatives-derivatives.ensures c.put-pairs-number.ensures.number c.subsets-k-end.ensures in
+    let number = counted m c.args.row.now c.loop-t.t c.loop-i.i c.put_pairs-number.result c.derivatives-derivatives.result.now
+    c.subsets-k-end.result c.derivatives-derivatives.ensures c.put_pairs-number.ensures.number c.subsets-k-end.ensures in
     let count = ap length c.derivatives-derivatives.ensures in
     let lt_t : c.loop-t.t < m.names = omega (arith, c.names-t-end.ensures) in
     let lt_i : c.loop-i.i < derivative_count m c.args.row.now.left = omega (arith, count) in
     let lt_k : c.loop-k.k < subset_count m c.args.row.now c.loop-t.t c.loop-i.i = omega (arith, number) in
     let found = sym (gap_found m S c.args.row.now c.loop-t.t c.loop-i.i c.loop-k.k lt_t c.loop-t.invariant.1 lt_i c.loop-i.invariant lt_k c.loop-k.invariant
     (subset_some m S c.args.row.now c.loop-t.t c.loop-i.i c.loop-k.k c.derivatives-derivatives.result.now
-    (take (c.put-pairs-number.result - 0) c.put-pairs-number.new.records) c.is-unshown.result
-    c.derivatives-derivatives.ensures (cut_known _ _ c.put-pairs-number.result c.put-pairs-number.ensures.written)
-    c.is-unshown.ensures c.if-is-unshown.true)) in
+    (take (c.put_pairs-number.result - 0) c.put_pairs-number.new.records) c.is_unshown.result
+    c.derivatives-derivatives.ensures (cut_known _ _ c.put_pairs-number.result c.put_pairs-number.ensures.written)
+    c.is_unshown.ensures c.if-is_unshown.true)) in
     record { first = found; exact = λ narrow. ap is_some found ∙ gap_exact m S c.args.row.now narrow }
 
 pub returns-after-loop-t : goal.returns-after-loop-t

@@ -14,7 +14,7 @@ use Rattle.states.specs.Memo.{Sound}
 use Rattle.states.specs.Derive.{State, On, Goes, Went, Lists, Inside}
 use Rattle.states.proofs.Going.{state_nulls, Then, turn_ready, arm_seq, arm_star, null_told, then_some, then_none, on_same, on_next, lists_none, inside_none, told_none, noted_lists, at_node, into, arm_none, arm_simple, arm_element, arm_rule, arm_union, arm_first, arm_noted, first_later, second_in, seq_first, star_first, union_first, on_nulls, seq_step, star_step, null_later, inside_longer}
 use Rattle.states.proofs.derive.+derive.Goals as goal
-use Rattle.states.proofs.derive.+derive.Goals.{in-Nothing, in_Simple+in_ok_span, in_Element+in_ok_span_2, in_Rule+then_k_rule+in_ok_span_3, in_Rule+else_k_rule, in_Union+in_ok_left+in_ok_right+in_ok_span_4, in_Seq+in_ok_first+in_ok_span_5, then_nullable+in_ok_then, else_nullable, in_Star+in_ok_first_2+in_ok_span_6}
+use Rattle.states.proofs.derive.+derive.Goals.{in-Nothing, in-Simple+in_ok-span-in-Simple, in-Element+in_ok-span-in-Element, in-Rule+then-k-rule+in_ok-span-in-Rule, in-Rule+else-k-rule, in-Union+in_ok-left-in-Union+in_ok-right-in-Union+in_ok-span-in-Union, in-Seq+in_ok-first-in-Seq+in_ok-span-in-Seq, then-nullable+in_ok-then-in-Seq, else-nullable, in-Star+in_ok-first-in-Star+in_ok-span-in-Star}
 
 pub returns-then-node-len : goal.returns-then-node-len
 returns-then-node-len t c =
@@ -62,13 +62,13 @@ derive-requires-in-Union-2 t c =
       (c.requires.small, (c.requires.few, c.in_ok-left-in-Union.ensures.0.state)),
     )
 
-pub of-union-requires : goal.of-union-requires
-of-union-requires t c =
-    let p = c.in-ok-left.ensures in
-    let q = c.in-ok-right.ensures in
+pub of_union-requires : goal.of_union-requires
+of_union-requires t c =
+    let p = c.in_ok-left-in-Union.ensures in
+    let q = c.in_ok-right-in-Union.ensures in
     record {
       left = inside_longer (vec_items c.derive-in-Union.new.w.found) (vec_items c.derive-in-Union-2.new.w.found)
-          c.in-ok-left.left q.0.found_grow p.1.0;
+          c.in_ok-left-in-Union.left q.0.found_grow p.1.0;
       right = q.1.0;
     }
 
@@ -99,8 +99,8 @@ derive-requires-then-nullable t c =
     let v = c.derive-in-Seq.new.w.nulls in
     let ws = c.nullable.new.memo in
     let long : length ws ≡ v.len = omega (arith, c.nullable.auto.memo, c.as_mut_slice.ensures.len) in
-    let sound : Sound nodes bodies ws = subst (λ l. Sound l bodies ws) c.as-slice-in-Seq.ensures.value c.nullable.ensures.sound in (
-      part_falls t c.args.rule c.args.node c.in-Seq.b c.earlier-of-then-nullable.result c.decreases small c.earlier-of-then-nullable.ensures,
+    let sound : Sound nodes bodies ws = subst (λ l. Sound l bodies ws) c.as_slice-in-Seq.ensures.value c.nullable.ensures.sound in (
+      part_falls t c.args.rule c.args.node c.in-Seq.b c.earlier_of-then-nullable.result c.decreases small c.earlier_of-then-nullable.ensures,
       (
         c.requires.small,
         (
@@ -111,8 +111,8 @@ derive-requires-then-nullable t c =
       ),
     )
 
-pub of-first-requires : goal.of-first-requires
-of-first-requires t c =
+pub of_first-requires : goal.of_first-requires
+of_first-requires t c =
     let rules = c.args.rules.now in
     let w0 = c.args.w.now in
     let w1 = c.derive-in-Seq.new.w in
@@ -122,10 +122,10 @@ of-first-requires t c =
     let lt : c.args.node < length nodes0 = omega arith in
     let is : get_or nodes0 c.args.node Nothing ≡ Seq c.in-Seq.a c.in-Seq.b =
     at_node nodes0 c.args.node c.index.result.now (Seq c.in-Seq.a c.in-Seq.b) lt c.index.ensures c.in-Seq.is in
-    let p = c.in-ok-first.ensures in
+    let p = c.in_ok-first-in-Seq.ensures in
     let ws = c.nullable.new.memo in
-    let long : length ws ≡ w1.nulls.len = omega (arith, c.nullable.auto.memo, c.as-mut-slice.ensures.len) in
-    let sound : Sound (vec_items w1.nodes) bodies ws = subst (λ l. Sound l bodies ws) c.as-slice-in-Seq.ensures.value c.nullable.ensures.sound in
+    let long : length ws ≡ w1.nulls.len = omega (arith, c.nullable.auto.memo, c.as_mut_slice.ensures.len) in
+    let sound : Sound (vec_items w1.nodes) bodies ws = subst (λ l. Sound l bodies ws) c.as_slice-in-Seq.ensures.value c.nullable.ensures.sound in
     let mid : Work = record { nodes = w1.nodes; nulls = with_items w1.nulls ws; found = w1.found; spans = w1.spans } in
     let on : Goes rules w1 mid =
     on_nulls bodies rules.empty (vec_items w1.nodes) (vec_items w1.nodes) (vec_items w1.nulls) (vec_items (with_items w1.nulls ws)) (vec_items w1.found) (vec_items w1.found) (vec_items w1.spans)
@@ -133,16 +133,16 @@ of-first-requires t c =
     (on_same bodies rules.empty (vec_items w1.nodes) (vec_items w1.nulls) (vec_items w1.found) (vec_items w1.spans) p.0.state) in
     let then : Then rules w1 c.if-nullable.w c.args.rule c.args.node c.in-Seq.b c.nullable.result c.if-nullable.then =
     elim c.if-nullable.branch [
-      | then_nullable+in_ok_then u ↦
-          then_some rules w1 mid u.derive-then-nullable.new.w c.if-nullable.w c.args.rule c.args.node c.in-Seq.b u.earlier-of-then-nullable.result
-          c.nullable.result c.if-nullable.then u.in-ok-then.then u.w-is u.then-is u.if-nullable.true
-          u.earlier-of-then-nullable.ensures on u.in-ok-then.ensures
-      | else_nullable u ↦
+      | then-nullable+in_ok-then-in-Seq u ↦
+          then_some rules w1 mid u.derive-then-nullable.new.w c.if-nullable.w c.args.rule c.args.node c.in-Seq.b u.earlier_of-then-nullable.result
+          c.nullable.result c.if-nullable.then u.in_ok-then-in-Seq.then u.w-is u.then-is u.if-nullable.true
+          u.earlier_of-then-nullable.ensures on u.in_ok-then-in-Seq.ensures
+      | else-nullable u ↦
           then_none rules w1 mid c.if-nullable.w c.args.rule c.args.node c.in-Seq.b c.nullable.result c.if-nullable.then u.nowhere-then.result
           u.w-is u.then-is u.if-nullable.false on u.nowhere-then.ensures
     ] in
-    let ready = turn_ready rules w0 w1 c.if-nullable.w c.args.rule c.args.node c.in-Seq.a c.in-Seq.b c.earlier-of-in-Seq.result
-    c.nullable.result c.in-ok-first.first c.if-nullable.then c.requires.right.fine lt is c.earlier-of-in-Seq.ensures p then in
+    let ready = turn_ready rules w0 w1 c.if-nullable.w c.args.rule c.args.node c.in-Seq.a c.in-Seq.b c.earlier_of-in-Seq.result
+    c.nullable.result c.in_ok-first-in-Seq.first c.if-nullable.then c.requires.right.fine lt is c.earlier_of-in-Seq.ensures p then in
     record {
       first = ready.0.0;
       then = then.1;
@@ -159,9 +159,9 @@ derive-requires-in-Star t c =
       (c.requires.small, (c.requires.few, c.requires.right)),
     )
 
-pub of-first-requires-in-Star : goal.of-first-requires-in-Star
-of-first-requires-in-Star t c =
-    let p = c.in-ok-first-2.ensures in
+pub of_first-requires-in-Star : goal.of_first-requires-in-Star
+of_first-requires-in-Star t c =
+    let p = c.in_ok-first-in-Star.ensures in
     let st = p.0.state in
     let ok = c.args.w.now.nodes.ok.0 in
     let lt : c.args.node < length (vec_items c.args.w.now.nodes) = omega arith in
@@ -199,34 +199,34 @@ returns t c =
           (λ q. arm_none bodies₀ e n₀ k₀ f₀ s₀ r i w.nowhere-span.result Nothing st lt₀ (at_node n₀ i x Nothing lt₀ c.index.ensures q) refl w.nowhere-span.ensures)
           (λ q. arm_none bodies₀ e n₀ k₀ f₀ s₀ r i w.nowhere-span.result Empty st lt₀ (at_node n₀ i x Empty lt₀ c.index.ensures q) refl w.nowhere-span.ensures)
           w.in-Nothing.is)
-      | in_Simple+in_ok_span w ↦ into rules₀ old c.match-index.w (record { nodes = old.nodes; nulls = old.nulls; found = w.of-leaf.new.found; spans = old.spans }) r i
-          c.match-index.span w.in-ok-span.span w.w-is w.span-is
-          (arm_simple bodies₀ e n₀ k₀ f₀ (vec_items w.of-leaf.new.found) s₀ r i w.in-ok-span.span w.in-Simple.n st lt₀
-          (at_node n₀ i x (Simple w.in-Simple.n) lt₀ c.index.ensures w.in-Simple.is) w.in-ok-span.ensures)
-      | in_Element+in_ok_span_2 w ↦ into rules₀ old c.match-index.w (record { nodes = old.nodes; nulls = old.nulls; found = w.of-leaf-in-Element.new.found; spans = old.spans }) r i
-          c.match-index.span w.in-ok-span-2.span w.w-is w.span-is
-          (arm_element bodies₀ e n₀ k₀ f₀ (vec_items w.of-leaf-in-Element.new.found) s₀ r i w.in-ok-span-2.span w.in-Element.n w.in-Element.c st lt₀
-          (at_node n₀ i x (Element w.in-Element.n w.in-Element.c) lt₀ c.index.ensures w.in-Element.is) w.in-ok-span-2.ensures)
-      | in_Rule+then_k_rule+in_ok_span_3 w ↦ into rules₀ old c.match-index.w w.derive.new.w r i
-          c.match-index.span w.in-ok-span-3.span w.w-is w.span-is
+      | in-Simple+in_ok-span-in-Simple w ↦ into rules₀ old c.match-index.w (record { nodes = old.nodes; nulls = old.nulls; found = w.of_leaf.new.found; spans = old.spans }) r i
+          c.match-index.span w.in_ok-span-in-Simple.span w.w-is w.span-is
+          (arm_simple bodies₀ e n₀ k₀ f₀ (vec_items w.of_leaf.new.found) s₀ r i w.in_ok-span-in-Simple.span w.in-Simple.n st lt₀
+          (at_node n₀ i x (Simple w.in-Simple.n) lt₀ c.index.ensures w.in-Simple.is) w.in_ok-span-in-Simple.ensures)
+      | in-Element+in_ok-span-in-Element w ↦ into rules₀ old c.match-index.w (record { nodes = old.nodes; nulls = old.nulls; found = w.of_leaf-in-Element.new.found; spans = old.spans }) r i
+          c.match-index.span w.in_ok-span-in-Element.span w.w-is w.span-is
+          (arm_element bodies₀ e n₀ k₀ f₀ (vec_items w.of_leaf-in-Element.new.found) s₀ r i w.in_ok-span-in-Element.span w.in-Element.n w.in-Element.c st lt₀
+          (at_node n₀ i x (Element w.in-Element.n w.in-Element.c) lt₀ c.index.ensures w.in-Element.is) w.in_ok-span-in-Element.ensures)
+      | in-Rule+then-k-rule+in_ok-span-in-Rule w ↦ into rules₀ old c.match-index.w w.derive.new.w r i
+          c.match-index.span w.in_ok-span-in-Rule.span w.w-is w.span-is
           (arm_rule bodies₀ e n₀ (vec_items w.derive.new.w.nodes) (vec_items w.derive.new.w.nulls) f₀ (vec_items w.derive.new.w.found) (vec_items w.derive.new.w.spans)
-          r i w.in-Rule.k w.body.result w.in-ok-span-3.span lt₀
-          (at_node n₀ i x (Rule w.in-Rule.k) lt₀ c.index.ensures w.in-Rule.is) w.if-k-rule.true w.body.ensures w.in-ok-span-3.ensures)
-      | in_Rule+else_k_rule w ↦ into rules₀ old c.match-index.w old r i c.match-index.span w.nowhere-else-k-rule.result w.w-is w.span-is
+          r i w.in-Rule.k w.body.result w.in_ok-span-in-Rule.span lt₀
+          (at_node n₀ i x (Rule w.in-Rule.k) lt₀ c.index.ensures w.in-Rule.is) w.if-k-rule.true w.body.ensures w.in_ok-span-in-Rule.ensures)
+      | in-Rule+else-k-rule w ↦ into rules₀ old c.match-index.w old r i c.match-index.span w.nowhere-else-k-rule.result w.w-is w.span-is
           (arm_none bodies₀ e n₀ k₀ f₀ s₀ r i w.nowhere-else-k-rule.result (Rule w.in-Rule.k) st lt₀
           (at_node n₀ i x (Rule w.in-Rule.k) lt₀ c.index.ensures w.in-Rule.is)
           (cond-false _ _ _ (le-ltb w.in-Rule.k r w.if-k-rule.false)) w.nowhere-else-k-rule.ensures)
-      | in_Union+in_ok_left+in_ok_right+in_ok_span_4 w ↦
+      | in-Union+in_ok-left-in-Union+in_ok-right-in-Union+in_ok-span-in-Union w ↦
           let a₁ = w.derive-in-Union.new.w in
           let a₂ = w.derive-in-Union-2.new.w in
-          into rules₀ old c.match-index.w (record { nodes = a₂.nodes; nulls = a₂.nulls; found = w.of-union.new.found; spans = a₂.spans }) r i
-          c.match-index.span w.in-ok-span-4.span w.w-is w.span-is
-          (arm_union bodies₀ e n₀ (vec_items a₁.nodes) (vec_items a₂.nodes) (vec_items a₁.nulls) (vec_items a₂.nulls) f₀ (vec_items a₁.found) (vec_items a₂.found) (vec_items w.of-union.new.found)
-          (vec_items a₁.spans) (vec_items a₂.spans) r i w.in-Union.a w.in-Union.b w.earlier-of.result w.earlier-of-in-Union.result
-          w.in-ok-left.left w.in-ok-right.right w.in-ok-span-4.span st.fine lt₀
-          (at_node n₀ i x (Union w.in-Union.a w.in-Union.b) lt₀ c.index.ensures w.in-Union.is) w.earlier-of.ensures w.earlier-of-in-Union.ensures
-          w.in-ok-left.ensures w.in-ok-right.ensures w.in-ok-span-4.ensures)
-      | in_Seq+in_ok_first+in_ok_span_5 w ↦
+          into rules₀ old c.match-index.w (record { nodes = a₂.nodes; nulls = a₂.nulls; found = w.of_union.new.found; spans = a₂.spans }) r i
+          c.match-index.span w.in_ok-span-in-Union.span w.w-is w.span-is
+          (arm_union bodies₀ e n₀ (vec_items a₁.nodes) (vec_items a₂.nodes) (vec_items a₁.nulls) (vec_items a₂.nulls) f₀ (vec_items a₁.found) (vec_items a₂.found) (vec_items w.of_union.new.found)
+          (vec_items a₁.spans) (vec_items a₂.spans) r i w.in-Union.a w.in-Union.b w.earlier_of.result w.earlier_of-in-Union.result
+          w.in_ok-left-in-Union.left w.in_ok-right-in-Union.right w.in_ok-span-in-Union.span st.fine lt₀
+          (at_node n₀ i x (Union w.in-Union.a w.in-Union.b) lt₀ c.index.ensures w.in-Union.is) w.earlier_of.ensures w.earlier_of-in-Union.ensures
+          w.in_ok-left-in-Union.ensures w.in_ok-right-in-Union.ensures w.in_ok-span-in-Union.ensures)
+      | in-Seq+in_ok-first-in-Seq+in_ok-span-in-Seq w ↦
           let rules = c.args.rules.now in
           let w0 = c.args.w.now in
           let w1 = w.derive-in-Seq.new.w in
@@ -236,10 +236,10 @@ returns t c =
           let lt : c.args.node < length nodes0 = omega arith in
           let is : get_or nodes0 c.args.node Nothing ≡ Seq w.in-Seq.a w.in-Seq.b =
           at_node nodes0 c.args.node c.index.result.now (Seq w.in-Seq.a w.in-Seq.b) lt c.index.ensures w.in-Seq.is in
-          let p = w.in-ok-first.ensures in
+          let p = w.in_ok-first-in-Seq.ensures in
           let ws = w.nullable.new.memo in
-          let long : length ws ≡ w1.nulls.len = omega (arith, w.nullable.auto.memo, w.as-mut-slice.ensures.len) in
-          let sound : Sound (vec_items w1.nodes) bodies ws = subst (λ l. Sound l bodies ws) w.as-slice-in-Seq.ensures.value w.nullable.ensures.sound in
+          let long : length ws ≡ w1.nulls.len = omega (arith, w.nullable.auto.memo, w.as_mut_slice.ensures.len) in
+          let sound : Sound (vec_items w1.nodes) bodies ws = subst (λ l. Sound l bodies ws) w.as_slice-in-Seq.ensures.value w.nullable.ensures.sound in
           let mid : Work = record { nodes = w1.nodes; nulls = with_items w1.nulls ws; found = w1.found; spans = w1.spans } in
           let on : Goes rules w1 mid =
           on_nulls bodies rules.empty (vec_items w1.nodes) (vec_items w1.nodes) (vec_items w1.nulls) (vec_items (with_items w1.nulls ws)) (vec_items w1.found) (vec_items w1.found) (vec_items w1.spans)
@@ -247,36 +247,36 @@ returns t c =
           (on_same bodies rules.empty (vec_items w1.nodes) (vec_items w1.nulls) (vec_items w1.found) (vec_items w1.spans) p.0.state) in
           let then : Then rules w1 w.if-nullable.w c.args.rule c.args.node w.in-Seq.b w.nullable.result w.if-nullable.then =
           elim w.if-nullable.branch [
-            | then_nullable+in_ok_then u ↦
-                then_some rules w1 mid u.derive-then-nullable.new.w w.if-nullable.w c.args.rule c.args.node w.in-Seq.b u.earlier-of-then-nullable.result
-                w.nullable.result w.if-nullable.then u.in-ok-then.then u.w-is u.then-is u.if-nullable.true
-                u.earlier-of-then-nullable.ensures on u.in-ok-then.ensures
-            | else_nullable u ↦
+            | then-nullable+in_ok-then-in-Seq u ↦
+                then_some rules w1 mid u.derive-then-nullable.new.w w.if-nullable.w c.args.rule c.args.node w.in-Seq.b u.earlier_of-then-nullable.result
+                w.nullable.result w.if-nullable.then u.in_ok-then-in-Seq.then u.w-is u.then-is u.if-nullable.true
+                u.earlier_of-then-nullable.ensures on u.in_ok-then-in-Seq.ensures
+            | else-nullable u ↦
                 then_none rules w1 mid w.if-nullable.w c.args.rule c.args.node w.in-Seq.b w.nullable.result w.if-nullable.then u.nowhere-then.result
                 u.w-is u.then-is u.if-nullable.false on u.nowhere-then.ensures
           ] in
           let new = w.if-nullable.w in
-          let last : Work = record { nodes = w.of-first.new.nodes; nulls = new.nulls; found = w.of-first.new.found; spans = new.spans } in
+          let last : Work = record { nodes = w.of_first.new.nodes; nulls = new.nulls; found = w.of_first.new.found; spans = new.spans } in
           let count : w.len-in-Seq.result ≡ length bodies = w.len-in-Seq.ensures ∙ rules.bodies.ok.0 in
-          let null : w.nullable.result ≡ null_at (vec_items w1.nodes) bodies (length bodies) w.earlier-of-in-Seq.result =
-          null_told (vec_items w1.nodes) w.as-slice-in-Seq.result.now bodies w.len-in-Seq.result w.earlier-of-in-Seq-2.result w.earlier-of-in-Seq.result
-          w.nullable.result w.as-slice-in-Seq.ensures.value count (w.earlier-of-in-Seq-2.ensures ∙ sym w.earlier-of-in-Seq.ensures) w.nullable.ensures.value in
-          into rules₀ old c.match-index.w last r i c.match-index.span w.in-ok-span-5.span w.w-is w.span-is
-          (arm_seq rules w0 w1 new last r i w.in-Seq.a w.in-Seq.b w.earlier-of-in-Seq.result w.nullable.result
-          w.in-ok-first.first w.if-nullable.then w.in-ok-span-5.span st.fine lt is w.earlier-of-in-Seq.ensures p then null
-          w.in-ok-span-5.ensures refl refl)
-      | in_Star+in_ok_first_2+in_ok_span_6 w ↦
+          let null : w.nullable.result ≡ null_at (vec_items w1.nodes) bodies (length bodies) w.earlier_of-in-Seq.result =
+          null_told (vec_items w1.nodes) w.as_slice-in-Seq.result.now bodies w.len-in-Seq.result w.earlier_of-in-Seq-2.result w.earlier_of-in-Seq.result
+          w.nullable.result w.as_slice-in-Seq.ensures.value count (w.earlier_of-in-Seq-2.ensures ∙ sym w.earlier_of-in-Seq.ensures) w.nullable.ensures.value in
+          into rules₀ old c.match-index.w last r i c.match-index.span w.in_ok-span-in-Seq.span w.w-is w.span-is
+          (arm_seq rules w0 w1 new last r i w.in-Seq.a w.in-Seq.b w.earlier_of-in-Seq.result w.nullable.result
+          w.in_ok-first-in-Seq.first w.if-nullable.then w.in_ok-span-in-Seq.span st.fine lt is w.earlier_of-in-Seq.ensures p then null
+          w.in_ok-span-in-Seq.ensures refl refl)
+      | in-Star+in_ok-first-in-Star+in_ok-span-in-Star w ↦
           let new = w.derive-in-Star.new.w in
-          let last : Work = record { nodes = w.of-first-in-Star.new.nodes; nulls = new.nulls; found = w.of-first-in-Star.new.found; spans = new.spans } in
-          into rules₀ old c.match-index.w last r i c.match-index.span w.in-ok-span-6.span w.w-is w.span-is
-          (arm_star rules₀ old new last r i w.in-Star.a w.earlier-of-in-Star.result w.in-ok-first-2.first w.nowhere-in-Star.result w.in-ok-span-6.span
-          st.fine lt₀ (at_node n₀ i x (Star w.in-Star.a) lt₀ c.index.ensures w.in-Star.is) w.earlier-of-in-Star.ensures
-          w.in-ok-first-2.ensures w.nowhere-in-Star.ensures w.in-ok-span-6.ensures refl refl)
+          let last : Work = record { nodes = w.of_first-in-Star.new.nodes; nulls = new.nulls; found = w.of_first-in-Star.new.found; spans = new.spans } in
+          into rules₀ old c.match-index.w last r i c.match-index.span w.in_ok-span-in-Star.span w.w-is w.span-is
+          (arm_star rules₀ old new last r i w.in-Star.a w.earlier_of-in-Star.result w.in_ok-first-in-Star.first w.nowhere-in-Star.result w.in_ok-span-in-Star.span
+          st.fine lt₀ (at_node n₀ i x (Star w.in-Star.a) lt₀ c.index.ensures w.in-Star.is) w.earlier_of-in-Star.ensures
+          w.in_ok-first-in-Star.ensures w.nowhere-in-Star.ensures w.in_ok-span-in-Star.ensures refl refl)
     ] in
     let now = c.match-index.w in
-    let ws₀ = c.note-down.new.spans in
+    let ws₀ = c.note_down.new.spans in
     let noted : ws₀ ≡ set (vec_items now.spans) (r * 512 + i) (Some c.match-index.span) =
-    c.note-down.ensures ∙ ap (λ (l : List (Option Span)). set l (r * 512 + i) (Some c.match-index.span)) c.as-mut-slice-2.ensures.value in
-    let long₀ : length ws₀ ≡ now.spans.len = omega (arith, c.note-down.auto.spans, c.as-mut-slice-2.ensures.len) in
+    c.note_down.ensures ∙ ap (λ (l : List (Option Span)). set l (r * 512 + i) (Some c.match-index.span)) c.as_mut_slice-2.ensures.value in
+    let long₀ : length ws₀ ≡ now.spans.len = omega (arith, c.note_down.auto.spans, c.as_mut_slice-2.ensures.len) in
     arm_noted bodies₀ e n₀ (vec_items now.nodes) (vec_items now.nulls) f₀ (vec_items now.found) (vec_items now.spans) _
     r i c.match-index.span lt₀ small₀ (with_items_is now.spans ws₀ long₀ ∙ noted) found₀

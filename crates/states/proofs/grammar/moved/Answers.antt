@@ -16,30 +16,30 @@ placed-requires-in-Union-2 c =
 
 pub placed-requires-in-Seq-2 : goal.placed-requires-in-Seq-2
 placed-requires-in-Seq-2 c =
-    let p = c.in-ok-left-2.ensures in
+    let p = c.in_ok-left-in-Seq.ensures in
     record {
       fine = p.0;
       below = below_then (vec_items c.args.nodes.now) (vec_items c.placed-in-Seq.new.nodes) c.args.places.now
-          c.in-ok-left-2.left _ p c.requires.below;
+          c.in_ok-left-in-Seq.left _ p c.requires.below;
     }
 
-pub returns-in-ok-placed-3 : goal.returns-in-ok-placed-3
-returns-in-ok-placed-3 c =
+pub returns-in_ok-placed-in-Union : goal.returns-in_ok-placed-in-Union
+returns-in_ok-placed-in-Union c =
     as_node (vec_items c.args.nodes.now) (vec_items c.placed-in-Union-2.new.nodes)
-    (Union c.in-ok-left.left c.in-ok-placed-3.field-0) c.args.node (Union c.in-Union.a c.in-Union.b)
+    (Union c.in_ok-left-in-Union.left c.in_ok-placed-in-Union.field-0) c.args.node (Union c.in-Union.a c.in-Union.b)
     (shown (vec_items c.args.nodes.now) c.args.places.now) c.in-Union.is
     (moved_union (vec_items c.args.nodes.now) (vec_items c.placed-in-Union.new.nodes) (vec_items c.placed-in-Union-2.new.nodes)
-    c.args.places.now c.in-Union.a c.in-Union.b c.in-ok-left.left c.in-ok-placed-3.field-0
-    c.requires.below c.in-ok-left.ensures c.in-ok-placed-3.ensures)
+    c.args.places.now c.in-Union.a c.in-Union.b c.in_ok-left-in-Union.left c.in_ok-placed-in-Union.field-0
+    c.requires.below c.in_ok-left-in-Union.ensures c.in_ok-placed-in-Union.ensures)
 
-pub returns-in-ok-placed-4 : goal.returns-in-ok-placed-4
-returns-in-ok-placed-4 c =
+pub returns-in_ok-placed-in-Seq : goal.returns-in_ok-placed-in-Seq
+returns-in_ok-placed-in-Seq c =
     as_node (vec_items c.args.nodes.now) (vec_items c.placed-in-Seq-2.new.nodes)
-    (Seq c.in-ok-left-2.left c.in-ok-placed-4.field-0) c.args.node (Seq c.in-Seq.a c.in-Seq.b)
+    (Seq c.in_ok-left-in-Seq.left c.in_ok-placed-in-Seq.field-0) c.args.node (Seq c.in-Seq.a c.in-Seq.b)
     (shown (vec_items c.args.nodes.now) c.args.places.now) c.in-Seq.is
     (moved_seq (vec_items c.args.nodes.now) (vec_items c.placed-in-Seq.new.nodes) (vec_items c.placed-in-Seq-2.new.nodes)
-    c.args.places.now c.in-Seq.a c.in-Seq.b c.in-ok-left-2.left c.in-ok-placed-4.field-0
-    c.requires.below c.in-ok-left-2.ensures c.in-ok-placed-4.ensures)
+    c.args.places.now c.in-Seq.a c.in-Seq.b c.in_ok-left-in-Seq.left c.in_ok-placed-in-Seq.field-0
+    c.requires.below c.in_ok-left-in-Seq.ensures c.in_ok-placed-in-Seq.ensures)
 
 pub returns-in-Nothing : goal.returns-in-Nothing
 returns-in-Nothing c =

@@ -7,7 +7,7 @@ use Rattle.expressions.proofs.Nulls.{null_past}
 use Rattle.states.specs.Memo.{Sound}
 use Rattle.states.proofs.Memos.{says_yes, says_no, noted, by_arm, at_part, or_then, or_else, and_then, and_else}
 use Rattle.states.proofs.nullable.+nullable.Goals as goal
-use Rattle.states.proofs.nullable.+nullable.Goals.{in-Nothing, in-Empty, in_Rule+then_k_rule, in_Rule+else_k_rule, in_Union+then_left, in_Union+else_left, in_Seq+then_left_2, in_Seq+else_left_2}
+use Rattle.states.proofs.nullable.+nullable.Goals.{in-Nothing, in-Empty, in-Rule+then-k-rule, in-Rule+else-k-rule, in-Union+then-left, in-Union+else-left, in-Seq+then-left-2, in-Seq+else-left-2}
 
 pub nullable-requires : goal.nullable-requires
 nullable-requires t c = (
@@ -88,45 +88,45 @@ returns t c =
             w.in-Empty.is,
         subst (Sound nodes bodies) (sym w.memo-is) c.requires.sound,
       )
-      | in_Rule+then_k_rule w ↦ (
+      | in-Rule+then-k-rule w ↦ (
         by_arm nodes bodies r i b w.nullable.result (Rule w.in-Rule.k) w.answer-is w.in-Rule.is
             (at_part nodes bodies w.in-Rule.k w.body.result (body_at bodies w.in-Rule.k) w.nullable.result
             w.nullable.ensures.value w.body.ensures
             ∙ sym (cond-true _ _ _ (lt-ltb w.in-Rule.k r w.if-k-rule.true))),
         subst (Sound nodes bodies) (sym w.memo-is) w.nullable.ensures.sound,
       )
-      | in_Rule+else_k_rule w ↦ (
+      | in-Rule+else-k-rule w ↦ (
         by_arm nodes bodies r i b (ltb w.in-Rule.k r) (Rule w.in-Rule.k) w.answer-is w.in-Rule.is
             (le-ltb w.in-Rule.k r w.if-k-rule.false ∙ sym (cond-false _ _ _ (le-ltb w.in-Rule.k r w.if-k-rule.false))),
         subst (Sound nodes bodies) (sym w.memo-is) c.requires.sound,
       )
-      | in_Union+then_left w ↦ (
+      | in-Union+then-left w ↦ (
         by_arm nodes bodies r i b w.nullable-left.result (Union w.in-Union.a w.in-Union.b) w.answer-is w.in-Union.is
             (or_then w.nullable-left.result (null_at nodes bodies r (earlier i w.in-Union.a)) (null_at nodes bodies r (earlier i w.in-Union.b))
-            (at_part nodes bodies r w.earlier-of.result (earlier i w.in-Union.a) w.nullable-left.result w.nullable-left.ensures.value w.earlier-of.ensures)
+            (at_part nodes bodies r w.earlier_of.result (earlier i w.in-Union.a) w.nullable-left.result w.nullable-left.ensures.value w.earlier_of.ensures)
             w.if-left.true),
         subst (Sound nodes bodies) (sym w.memo-is) w.nullable-right.ensures.sound,
       )
-      | in_Union+else_left w ↦ (
+      | in-Union+else-left w ↦ (
         by_arm nodes bodies r i b w.nullable-right.result (Union w.in-Union.a w.in-Union.b) w.answer-is w.in-Union.is
             (or_else w.nullable-left.result w.nullable-right.result (null_at nodes bodies r (earlier i w.in-Union.a)) (null_at nodes bodies r (earlier i w.in-Union.b))
-            (at_part nodes bodies r w.earlier-of.result (earlier i w.in-Union.a) w.nullable-left.result w.nullable-left.ensures.value w.earlier-of.ensures)
+            (at_part nodes bodies r w.earlier_of.result (earlier i w.in-Union.a) w.nullable-left.result w.nullable-left.ensures.value w.earlier_of.ensures)
             w.if-left.false
-            (at_part nodes bodies r w.earlier-of-in-Union.result (earlier i w.in-Union.b) w.nullable-right.result w.nullable-right.ensures.value w.earlier-of-in-Union.ensures)),
+            (at_part nodes bodies r w.earlier_of-in-Union.result (earlier i w.in-Union.b) w.nullable-right.result w.nullable-right.ensures.value w.earlier_of-in-Union.ensures)),
         subst (Sound nodes bodies) (sym w.memo-is) w.nullable-right.ensures.sound,
       )
-      | in_Seq+then_left_2 w ↦ (
+      | in-Seq+then-left-2 w ↦ (
         by_arm nodes bodies r i b w.nullable-right-in-Seq.result (Seq w.in-Seq.a w.in-Seq.b) w.answer-is w.in-Seq.is
             (and_then w.nullable-left-in-Seq.result w.nullable-right-in-Seq.result (null_at nodes bodies r (earlier i w.in-Seq.a)) (null_at nodes bodies r (earlier i w.in-Seq.b))
-            (at_part nodes bodies r w.earlier-of-in-Seq.result (earlier i w.in-Seq.a) w.nullable-left-in-Seq.result w.nullable-left-in-Seq.ensures.value w.earlier-of-in-Seq.ensures)
+            (at_part nodes bodies r w.earlier_of-in-Seq.result (earlier i w.in-Seq.a) w.nullable-left-in-Seq.result w.nullable-left-in-Seq.ensures.value w.earlier_of-in-Seq.ensures)
             w.if-left-2.true
-            (at_part nodes bodies r w.earlier-of-in-Seq-2.result (earlier i w.in-Seq.b) w.nullable-right-in-Seq.result w.nullable-right-in-Seq.ensures.value w.earlier-of-in-Seq-2.ensures)),
+            (at_part nodes bodies r w.earlier_of-in-Seq-2.result (earlier i w.in-Seq.b) w.nullable-right-in-Seq.result w.nullable-right-in-Seq.ensures.value w.earlier_of-in-Seq-2.ensures)),
         subst (Sound nodes bodies) (sym w.memo-is) w.nullable-right-in-Seq.ensures.sound,
       )
-      | in_Seq+else_left_2 w ↦ (
+      | in-Seq+else-left-2 w ↦ (
         by_arm nodes bodies r i b w.nullable-left-in-Seq.result (Seq w.in-Seq.a w.in-Seq.b) w.answer-is w.in-Seq.is
             (and_else w.nullable-left-in-Seq.result (null_at nodes bodies r (earlier i w.in-Seq.a)) (null_at nodes bodies r (earlier i w.in-Seq.b))
-            (at_part nodes bodies r w.earlier-of-in-Seq.result (earlier i w.in-Seq.a) w.nullable-left-in-Seq.result w.nullable-left-in-Seq.ensures.value w.earlier-of-in-Seq.ensures)
+            (at_part nodes bodies r w.earlier_of-in-Seq.result (earlier i w.in-Seq.a) w.nullable-left-in-Seq.result w.nullable-left-in-Seq.ensures.value w.earlier_of-in-Seq.ensures)
             w.if-left-2.false),
         subst (Sound nodes bodies) (sym w.memo-is) w.nullable-right-in-Seq.ensures.sound,
       )

@@ -8,10 +8,10 @@ loop-at-init c =
     chain_head c.args.side.now c.args.self.now.rows.now c.args.self.now.heads c.slot.result
     c.slot.ensures.value c.slot.ensures.below (c.args.self.now.headed few)
 
-pub returns-then-is-same : goal.returns-then-is-same
-returns-then-is-same c =
+pub returns-then-is_same : goal.returns-then-is_same
+returns-then-is_same c =
     chain_found c.args.side.now c.args.self.now.rows.now c.loop-at.at c.loop-at-test.true c.loop-at.invariant.2
-    (sym c.is-same.ensures ∙ c.if-is-same.true)
+    (sym c.is_same.ensures ∙ c.if-is_same.true)
 
 pub loop-at-smaller : goal.loop-at-smaller
 loop-at-smaller c =
@@ -22,4 +22,4 @@ pub loop-at-preserved : goal.loop-at-preserved
 loop-at-preserved c =
     let few : length c.args.self.now.rows.now ≤ 512 = omega arith in
     chain_link c.args.side.now c.args.self.now.rows.now c.args.self.now.links c.loop-at.at c.loop-at-test.true c.loop-at.invariant.0
-    (c.args.self.now.linked few) (c.loop-at.invariant.1 c.loop-at-test.true) c.loop-at.invariant.2 (sym c.is-same.ensures ∙ c.if-is-same.false)
+    (c.args.self.now.linked few) (c.loop-at.invariant.1 c.loop-at-test.true) c.loop-at.invariant.2 (sym c.is_same.ensures ∙ c.if-is_same.false)
