@@ -23,9 +23,9 @@ returns-then-marks-ne0 c =
     let all : length rows - 0 ≡ length rows = omega arith in (
       sym long,
       decide_excluded m met c.settle-used.new.marks items c.settle-used.result (length rows) (length c.args.items.now) some c.requires.1.1.0 done
-          c.blank-rows.new.rows c.blank-items.new.items c.if-marks-ne0.true
-          (c.blank-rows.ensures ∙ ap (λ k. replicate k blank_row) all)
-          (c.blank-items.ensures ∙ ap (λ k. take c.settle-used.result items ++ replicate (k - c.settle-used.result) blank_item) c.settle-used.auto.items),
+          c.blank_rows.new.rows c.blank_items.new.items c.if-marks-ne0.true
+          (c.blank_rows.ensures ∙ ap (λ k. replicate k blank_row) all)
+          (c.blank_items.ensures ∙ ap (λ k. take c.settle-used.result items ++ replicate (k - c.settle-used.result) blank_item) c.settle-used.auto.items),
     )
 
 pub returns : goal.returns
@@ -41,14 +41,14 @@ returns c =
     subst (λ k. Settled m (take k rows) marks items c.settle-used.result) z c.settle-used.ensures in
     let some : 0 < length met = omega (arith, long, c.requires.0) in
     let all : length items - 0 ≡ length c.args.items.now = omega (arith, c.settle-used.auto.items) in
-    let records = c.keep-unmarked-records.result in (
+    let records = c.keep_unmarked-records.result in (
       sym long,
       decide_included m met marks items c.settle-used.result (length rows) (length c.args.items.now) some c.requires.1.1.0 done
-          records c.blank-rows-2.new.rows c.blank-items-2.new.items c.if-marks-ne0.false
-          (c.keep-unmarked-records.ensures.number ∙ ap (λ k. length (unmarked met (flags marks k))) (sym long))
-          (c.blank-rows-2.ensures
-          ∙ ap (λ (l : List Row). l ++ replicate (length c.keep-unmarked-records.new.rows - records) blank_row) c.keep-unmarked-records.ensures.kept
-          ∙ ap (λ k. unmarked met (flags marks k) ++ replicate (length c.keep-unmarked-records.new.rows - records) blank_row) (sym long)
-          ∙ ap (λ k. unmarked met (flags marks (length met)) ++ replicate (k - records) blank_row) c.keep-unmarked-records.auto.rows)
-          (c.blank-items-2.ensures ∙ ap (λ k. replicate k blank_item) all),
+          records c.blank_rows-2.new.rows c.blank_items-2.new.items c.if-marks-ne0.false
+          (c.keep_unmarked-records.ensures.number ∙ ap (λ k. length (unmarked met (flags marks k))) (sym long))
+          (c.blank_rows-2.ensures
+          ∙ ap (λ (l : List Row). l ++ replicate (length c.keep_unmarked-records.new.rows - records) blank_row) c.keep_unmarked-records.ensures.kept
+          ∙ ap (λ k. unmarked met (flags marks k) ++ replicate (length c.keep_unmarked-records.new.rows - records) blank_row) (sym long)
+          ∙ ap (λ k. unmarked met (flags marks (length met)) ++ replicate (k - records) blank_row) c.keep_unmarked-records.auto.rows)
+          (c.blank_items-2.ensures ∙ ap (λ k. replicate k blank_item) all),
     )

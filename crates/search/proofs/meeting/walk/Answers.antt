@@ -16,12 +16,12 @@ returns-in-Wide c =
     let inv = c.loop-taken.invariant in
     let took = c.in-Wide.ensures.took in
     let more : c.loop-taken.taken < room c.args.book.now + 1 = omega (arith, inv.1, inv.2, c.loop-taken-test.true) in
-    let turn = turn_wide m (room c.args.book.now + 1) c.loop-taken.taken c.loop-taken.book c.take-row.new.book c.loop-taken-test.true inv.1 more took.0 in
+    let turn = turn_wide m (room c.args.book.now + 1) c.loop-taken.taken c.loop-taken.book c.take_row.new.book c.loop-taken-test.true inv.1 more took.0 in
     record {
       met = ap (λ (b : Book Row). met_by Wide (holds b)) took.1 ∙ sym turn
           ∙ ap (λ n. meet_on m n (room c.args.book.now + 1 - c.loop-taken.taken) c.loop-taken.taken (holds c.loop-taken.book)) inv.2 ∙ inv.0;
       within = subst (λ (b : Book Row). b.count ≤ room b) (sym took.1) inv.1;
-      lent = c.take-row.ensures.lent ∙ inv.3;
+      lent = c.take_row.ensures.lent ∙ inv.3;
     }
 
 pub returns-in-Full : goal.returns-in-Full
@@ -30,12 +30,12 @@ returns-in-Full c =
     let inv = c.loop-taken.invariant in
     let took = c.in-Full.ensures.took in
     let more : c.loop-taken.taken < room c.args.book.now + 1 = omega (arith, inv.1, inv.2, c.loop-taken-test.true) in
-    let turn = turn_full m (room c.args.book.now + 1) c.loop-taken.taken c.loop-taken.book c.take-row.new.book c.loop-taken-test.true inv.1 more took.0 took.1 in
+    let turn = turn_full m (room c.args.book.now + 1) c.loop-taken.taken c.loop-taken.book c.take_row.new.book c.loop-taken-test.true inv.1 more took.0 took.1 in
     record {
       met = sym turn
           ∙ ap (λ n. meet_on m n (room c.args.book.now + 1 - c.loop-taken.taken) c.loop-taken.taken (holds c.loop-taken.book)) inv.2 ∙ inv.0;
       within = took.1.kept.within inv.1;
-      lent = c.take-row.ensures.lent ∙ inv.3;
+      lent = c.take_row.ensures.lent ∙ inv.3;
     }
 
 pub loop-taken-preserved : goal.loop-taken-preserved
@@ -44,13 +44,13 @@ loop-taken-preserved c =
     let inv = c.loop-taken.invariant in
     let took = c.in-Entered.ensures.took in
     let more : c.loop-taken.taken < room c.args.book.now + 1 = omega (arith, inv.1, inv.2, c.loop-taken-test.true) in
-    let turn = turn_more m (room c.args.book.now + 1) c.loop-taken.taken c.loop-taken.book c.take-row.new.book c.loop-taken-test.true inv.1 more took.0 took.1 in (
-      (ap (λ n. meet_on m n (room c.args.book.now + 1 - (c.loop-taken.taken + 1)) (c.loop-taken.taken + 1) (holds c.take-row.new.book)) (sym inv.2)
+    let turn = turn_more m (room c.args.book.now + 1) c.loop-taken.taken c.loop-taken.book c.take_row.new.book c.loop-taken-test.true inv.1 more took.0 took.1 in (
+      (ap (λ n. meet_on m n (room c.args.book.now + 1 - (c.loop-taken.taken + 1)) (c.loop-taken.taken + 1) (holds c.take_row.new.book)) (sym inv.2)
           ∙ sym turn
           ∙ ap (λ n. meet_on m n (room c.args.book.now + 1 - c.loop-taken.taken) c.loop-taken.taken (holds c.loop-taken.book)) inv.2 ∙ inv.0),
       took.1.kept.within inv.1,
       (took.1.kept.len ∙ inv.2),
-      (c.take-row.ensures.lent ∙ inv.3),
+      (c.take_row.ensures.lent ∙ inv.3),
     )
 
 pub returns : goal.returns

@@ -23,7 +23,7 @@ returns-in-Some c =
     let same : c.in-Some.count - 0 ≡ length ps = omega (arith, at.0) in
     let is : take (c.in-Some.count - 0) c.pairs.new.records ≡ ps =
     ap (λ k. take k c.pairs.new.records) same ∙ c.in-Some.ensures.written ∙ take_all 8 ps at.1 in
-    c.of-derivatives.ensures
+    c.of_derivatives.ensures
     ∙ ap (λ (l : List Pair). of_derivatives m c.args.rows.now c.args.marks.now c.args.t c.args.row.now.left l) is
 
 pub returns-in-None : goal.returns-in-None
