@@ -4,8 +4,8 @@ use Rattle.text.specs.Forms.{decimal_after}
 use Rattle.text.proofs.Decimals.{digit_next, digit_more}
 use Rattle.text.proofs.form.decimal.Goals as goal
 
-pub overflow-sub-n : goal.overflow-sub-n
-overflow-sub-n c = (digit_next c.args.bytes.now c.loop-b.b-index c.loop-b-test.true c.loop-b.invariant.2).0
+pub overflow_sub-n : goal.overflow_sub-n
+overflow_sub-n c = (digit_next c.args.bytes.now c.loop-b.b-index c.loop-b-test.true c.loop-b.invariant.2).0
 
 pub loop-b-preserved : goal.loop-b-preserved
 loop-b-preserved c =
