@@ -1,6 +1,5 @@
 -- The steps of the loops over spellings and mentions.
 use Rattle.std.proofs.Common.{◌≡◌, ℕ, ◌+◌, ◌<◌, ◌≤◌, Bool, true, false, cond, ◌||◌, ltb, List, map, length, get_or, drop, Ok, Err, Decides, sym, ap, ◌∙◌, Bor}
-use Rattle.std.specs.Cmp.Lexicographic.{Matches}
 use Rattle.std.specs.Str.{bytes_eq}
 use Rattle.std.proofs.lemmas.Slice.Eq.{slice_eq-Decides, bytes_eq-Decides}
 use Rattle.std.proofs.lemmas.List.{at_drop_more, at_drop_all}
@@ -11,13 +10,9 @@ use Rattle.tables.specs.declared.draft.Mention.{Mention}
 use Rattle.tables.specs.Checks.{has}
 use Rattle.tables.specs.Read.{present}
 
--- what `==` on bytes tells
-pub same_is : (xs ys : List ℕ) (r : Bool) → Matches (λ (a b : ℕ) (t : Bool). Decides t (a ≡ b)) xs ys r → bytes_eq xs ys ≡ r
-same_is xs ys r h = same_from_decides (bytes_eq xs ys) r (bytes_eq-Decides xs ys) (slice_eq-Decides Decides-eqb xs ys r h)
-
 -- a search among spellings: the next one is it, it comes later, it is not there
-pub has_more : (s : List ℕ) (xs : List (Bor (List ℕ))) (i : ℕ) (d : Bor (List ℕ)) (r : Bool) → i < length xs → Matches (λ (a b : ℕ) (t : Bool). Decides t (a ≡ b)) (get_or xs i d).now s r → has s (map (λ x. x.now) (drop i xs)) ≡ (r || has s (map (λ x. x.now) (drop (i + 1) xs)))
-has_more s xs i d r h m = at_drop_more (λ l. has s (map (λ x. x.now) l)) xs i d h ∙ ap (λ b. b || has s (map (λ x. x.now) (drop (i + 1) xs))) (same_is (get_or xs i d).now s r m)
+pub has_more : (s : List ℕ) (xs : List (Bor (List ℕ))) (i : ℕ) (d : Bor (List ℕ)) (r : Bool) → i < length xs → bytes_eq (get_or xs i d).now s ≡ r → has s (map (λ x. x.now) (drop i xs)) ≡ (r || has s (map (λ x. x.now) (drop (i + 1) xs)))
+has_more s xs i d r h m = at_drop_more (λ l. has s (map (λ x. x.now) l)) xs i d h ∙ ap (λ b. b || has s (map (λ x. x.now) (drop (i + 1) xs))) m
 
 pub has_end : (s : List ℕ) (xs : List (Bor (List ℕ))) (i : ℕ) → length xs ≤ i → has s (map (λ x. x.now) (drop i xs)) ≡ false
 has_end s xs i h = at_drop_all (λ l. has s (map (λ x. x.now) l)) xs i h

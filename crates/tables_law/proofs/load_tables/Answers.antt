@@ -4,7 +4,7 @@ use Rattle.tables_law.proofs.load_tables.Goals as goal
 
 pub returns : goal.returns
 returns c =
-    let r = c.read-tables.result in
+    let r = c.read_tables.result in
     let text = c.args.text.now in
-    let e = c.read-tables.ensures in
+    let e = c.read_tables.ensures in
     record { exact = e; lawful = answer_lawful r text e; written = answer_writes r text e; accepted = answer_gives r text e }

@@ -11,12 +11,12 @@ returns c =
     let n = length c.args.items.now in
     let bs = c.args.text.now in
     let R = hedge_read names m n bs in
-    let p = c.in-ok-progress.progress in
-    let g = c.in-ok-progress.ensures in
+    let p = c.in_ok-progress.progress in
+    let g = c.in_ok-progress.ensures in
     let S = hedge_sound names m n bs p _ _ g.result g.rows g.items in
     record {
       result = answer_more count_of R p g.result;
-      rows = S.no_rows ∙ ap (λ k. replicate k blank_row) c.read-text.auto.rows;
+      rows = S.no_rows ∙ ap (λ k. replicate k blank_row) c.read_text.auto.rows;
       items = g.items;
       sound = S;
     }

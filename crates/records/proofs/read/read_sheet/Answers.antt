@@ -10,8 +10,8 @@ returns c =
     let n = length c.args.items.now in
     let bs = c.args.text.now in
     let R = sheet_read c.args.rules c.args.states names m n bs in
-    let p = c.in-ok-progress.progress in
-    let g = c.in-ok-progress.ensures in
+    let p = c.in_ok-progress.progress in
+    let g = c.in_ok-progress.ensures in
     record {
       result = answer_more sheet_of R p g.result;
       rows = g.rows;

@@ -11,8 +11,8 @@ returns-then-at-bytes c =
     let m = c.args.mark in
     let h : length (before m xs) < length xs = omega arith in
     record {
-      front = simp (sub-zero, c.mark-at-at.ensures) (front_is m xs);
-      back = ap (λ l. Some l) (take_rest xs (c.mark-at-at.result + 1)) ∙ ap (λ n. Some (drop (n + 1) xs)) c.mark-at-at.ensures ∙ sym (back_is m xs h);
+      front = simp (sub-zero, c.mark_at-at.ensures) (front_is m xs);
+      back = ap (λ l. Some l) (take_rest xs (c.mark_at-at.result + 1)) ∙ ap (λ n. Some (drop (n + 1) xs)) c.mark_at-at.ensures ∙ sym (back_is m xs h);
     }
 
 pub returns-else-at-bytes : goal.returns-else-at-bytes

@@ -7,8 +7,8 @@ use Rattle.writing.proofs.put.+put_number.Goals as goal
 pub put-requires : goal.put-requires
 put-requires t c = omega (arith, ap length (decimal_digit c.args.n c.if-n-lt10.true))
 
-pub put-number-next-requires : goal.put-number-next-requires
-put-number-next-requires t c =
+pub put_number-next-requires : goal.put_number-next-requires
+put_number-next-requires t c =
     let n = c.args.n in
     let big : n < 2 ^ 64 = omega arith in
     let e = ap length (decimal_step n c.if-n-lt10.false big) ∙ length_push (decimal (n / 10)) (48 + n % 10) in
@@ -19,7 +19,7 @@ put-requires-else-n-lt10 t c =
     let n = c.args.n in
     let big : n < 2 ^ 64 = omega arith in
     let e = ap length (decimal_step n c.if-n-lt10.false big) ∙ length_push (decimal (n / 10)) (48 + n % 10) in
-    omega (arith, e, c.put-number-next.ensures.next)
+    omega (arith, e, c.put_number-next.ensures.next)
 
 pub returns-then-n-lt10 : goal.returns-then-n-lt10
 returns-then-n-lt10 t c = wrote_as (sym (decimal_digit c.args.n c.if-n-lt10.true)) c.put.ensures
@@ -28,4 +28,4 @@ pub returns-else-n-lt10 : goal.returns-else-n-lt10
 returns-else-n-lt10 t c =
     let n = c.args.n in
     let big : n < 2 ^ 64 = omega arith in
-    wrote_as (sym (decimal_step n c.if-n-lt10.false big)) (wrote_then (decimal (n / 10)) ((48 + n % 10) ∷ []) c.put-number-next.ensures c.put-else-n-lt10.ensures)
+    wrote_as (sym (decimal_step n c.if-n-lt10.false big)) (wrote_then (decimal (n / 10)) ((48 + n % 10) ∷ []) c.put_number-next.ensures c.put-else-n-lt10.ensures)

@@ -8,8 +8,8 @@ use Rattle.writing.proofs.put.put_items.Goals as goal
 pub loop-item-init : goal.loop-item-init
 loop-item-init c = record { bytes = refl; next = refl }
 
-pub put-item-next-requires : goal.put-item-next-requires
-put-item-next-requires c =
+pub put_item-next-requires : goal.put_item-next-requires
+put_item-next-requires c =
     let xs = c.args.items.now in
     let i = c.loop-item.item-index in
     omega (arith, ap length (at_drop_more (all_texts item_text) xs i blank_item c.loop-item-test.true) ∙ length-append (item_text (get_or xs i blank_item)) (all_texts item_text (drop (i + 1) xs)), c.loop-item.invariant.next, c.requires)
@@ -18,7 +18,7 @@ pub loop-item-preserved : goal.loop-item-preserved
 loop-item-preserved c =
     let xs = c.args.items.now in
     let i = c.loop-item.item-index in
-    leads_on (item_text (get_or xs i blank_item)) (all_texts item_text (drop (i + 1) xs)) (all_texts item_text xs) (leads_from (at_drop_more (all_texts item_text) xs i blank_item c.loop-item-test.true) c.loop-item.invariant) c.put-item-next.ensures
+    leads_on (item_text (get_or xs i blank_item)) (all_texts item_text (drop (i + 1) xs)) (all_texts item_text xs) (leads_from (at_drop_more (all_texts item_text) xs i blank_item c.loop-item-test.true) c.loop-item.invariant) c.put_item-next.ensures
 
 pub returns : goal.returns
 returns c =

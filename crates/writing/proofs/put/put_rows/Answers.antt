@@ -8,8 +8,8 @@ use Rattle.writing.proofs.put.put_rows.Goals as goal
 pub loop-row-init : goal.loop-row-init
 loop-row-init c = record { bytes = refl; next = refl }
 
-pub put-row-next-requires : goal.put-row-next-requires
-put-row-next-requires c =
+pub put_row-next-requires : goal.put_row-next-requires
+put_row-next-requires c =
     let xs = c.args.rows.now in
     let i = c.loop-row.row-index in
     omega (arith, ap length (at_drop_more (all_texts row_text) xs i blank_row c.loop-row-test.true) ∙ length-append (row_text (get_or xs i blank_row)) (all_texts row_text (drop (i + 1) xs)), c.loop-row.invariant.next, c.requires)
@@ -18,7 +18,7 @@ pub loop-row-preserved : goal.loop-row-preserved
 loop-row-preserved c =
     let xs = c.args.rows.now in
     let i = c.loop-row.row-index in
-    leads_on (row_text (get_or xs i blank_row)) (all_texts row_text (drop (i + 1) xs)) (all_texts row_text xs) (leads_from (at_drop_more (all_texts row_text) xs i blank_row c.loop-row-test.true) c.loop-row.invariant) c.put-row-next.ensures
+    leads_on (row_text (get_or xs i blank_row)) (all_texts row_text (drop (i + 1) xs)) (all_texts row_text xs) (leads_from (at_drop_more (all_texts row_text) xs i blank_row c.loop-row-test.true) c.loop-row.invariant) c.put_row-next.ensures
 
 pub returns : goal.returns
 returns c =

@@ -5,23 +5,23 @@ use Rattle.writing.proofs.Laid.{wrote_then}
 use Rattle.writing.proofs.Spelled.{sheet_length, verdict_length}
 use Rattle.writing.proofs.put.put_sheet.Goals as goal
 
-pub put-pair-pair-requires : goal.put-pair-pair-requires
-put-pair-pair-requires c =
+pub put_pair-pair-requires : goal.put_pair-pair-requires
+put_pair-pair-requires c =
     let s = c.args.sheet in
-    omega (arith, sheet_length s c.args.rows.now c.args.items.now, c.requires.fits, c.put-verdict-verdict.ensures.next)
+    omega (arith, sheet_length s c.args.rows.now c.args.items.now, c.requires.fits, c.put_verdict-verdict.ensures.next)
 
-pub put-records-records-requires : goal.put-records-records-requires
-put-records-records-requires c =
+pub put_records-records-requires : goal.put_records-records-requires
+put_records-records-requires c =
     let s = c.args.sheet in
     record {
       enough = c.requires.enough;
-      fits = omega (arith, sheet_length s c.args.rows.now c.args.items.now, c.requires.fits, c.put-verdict-verdict.ensures.next, c.put-pair-pair.ensures.next);
+      fits = omega (arith, sheet_length s c.args.rows.now c.args.items.now, c.requires.fits, c.put_verdict-verdict.ensures.next, c.put_pair-pair.ensures.next);
     }
 
-pub put-end-requires : goal.put-end-requires
-put-end-requires c =
+pub put_end-requires : goal.put_end-requires
+put_end-requires c =
     let s = c.args.sheet in
-    omega (arith, sheet_length s c.args.rows.now c.args.items.now, c.requires.fits, c.put-verdict-verdict.ensures.next, c.put-pair-pair.ensures.next, c.put-records-records.ensures.next)
+    omega (arith, sheet_length s c.args.rows.now c.args.items.now, c.requires.fits, c.put_verdict-verdict.ensures.next, c.put_pair-pair.ensures.next, c.put_records-records.ensures.next)
 
 pub returns : goal.returns
 returns c =
@@ -29,6 +29,6 @@ returns c =
     let rows = c.args.rows.now in
     let items = c.args.items.now in
     let records = records_text s.verdict s.records rows items in
-    wrote_then (verdict_line s.verdict) (pair_text s.left s.right ++ (records ++ end_text s.records)) c.put-verdict-verdict.ensures
-    (wrote_then (pair_text s.left s.right) (records ++ end_text s.records) c.put-pair-pair.ensures
-    (wrote_then records (end_text s.records) c.put-records-records.ensures c.put-end.ensures))
+    wrote_then (verdict_line s.verdict) (pair_text s.left s.right ++ (records ++ end_text s.records)) c.put_verdict-verdict.ensures
+    (wrote_then (pair_text s.left s.right) (records ++ end_text s.records) c.put_pair-pair.ensures
+    (wrote_then records (end_text s.records) c.put_records-records.ensures c.put_end.ensures))

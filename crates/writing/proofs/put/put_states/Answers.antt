@@ -8,8 +8,8 @@ use Rattle.writing.proofs.put.put_states.Goals as goal
 pub loop-q-init : goal.loop-q-init
 loop-q-init c = record { bytes = refl; next = refl }
 
-pub put-state-next-requires : goal.put-state-next-requires
-put-state-next-requires c =
+pub put_state-next-requires : goal.put_state-next-requires
+put_state-next-requires c =
     let s = c.args.set.bits in
     let q = c.loop-q.q in
     let rest = further (map decimal (members (128 - (q + 1)) (q + 1) s)) in
@@ -19,7 +19,7 @@ pub loop-q-preserved : goal.loop-q-preserved
 loop-q-preserved c =
     let s = c.args.set.bits in
     let q = c.loop-q.q in
-    leads_on (state_text s q) (further (map decimal (members (128 - (q + 1)) (q + 1) s))) (states_text s) (leads_from (states_more q s c.loop-q-test.true) c.loop-q.invariant) c.put-state-next.ensures
+    leads_on (state_text s q) (further (map decimal (members (128 - (q + 1)) (q + 1) s))) (states_text s) (leads_from (states_more q s c.loop-q-test.true) c.loop-q.invariant) c.put_state-next.ensures
 
 pub returns : goal.returns
 returns c =

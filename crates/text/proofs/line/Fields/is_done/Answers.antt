@@ -2,4 +2,4 @@ use Rattle.text.proofs.Cuts.{done_is}
 use Rattle.text.proofs.line.Fields.is_done.Goals as goal
 
 pub returns : goal.returns
-returns c = done_is c.args.self.rest c.is-none.result c.is-none.ensures
+returns c = done_is c.args.self.rest c.is_none.result c.is_none.ensures
