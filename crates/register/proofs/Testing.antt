@@ -20,7 +20,7 @@ use Rattle.law.specs.Grounded.{Grounded}
 use Rattle.law.specs.Claims.{Has}
 use Rattle.law.proofs.Machines.{states_few, has_of, of_has}
 use Rattle.law.proofs.Reading.{hedge_well, hedge_items, take_padded}
-use Rattle.register.specs.declared.member.Membership.{Membership}
+use Rattle.register.specs.declared.membership.Membership.{Membership}
 use Rattle.register.specs.Calls.{rule_checked}
 use Rattle.register.specs.Member.{member_outcome, member_answer, items_tested, MemberTrue}
 

@@ -10,7 +10,7 @@ use Rattle.records.specs.Reading.{Found, hedge_read}
 use Rattle.tables.specs.Plain.{Plain}
 use Rattle.load.specs.Loaded.{bodies_of, rules_of}
 use Rattle.law.specs.Claims.{Has}
-use Rattle.register.specs.declared.member.Membership.{Membership}
+use Rattle.register.specs.declared.membership.Membership.{Membership}
 use Rattle.register.specs.Calls.{rule_checked}
 
 -- The rule is tested first, then the text is read.

@@ -3,7 +3,7 @@
 #![tactic(auto)]
 
 mod blank;
-pub mod member;
+pub mod membership;
 mod new;
 mod pairs;
 mod question;

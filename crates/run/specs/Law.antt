@@ -25,7 +25,7 @@ use Rattle.law.specs.Question.{VerdictTrue, Exactly}
 use Rattle.law.specs.Sheets.{sheet_outcome, rows_left, items_left, Exchanged}
 use Rattle.register.specs.Calls.{question_checked, looked_up, settles, SettledTrue}
 use Rattle.register.specs.Member.{member_outcome, member_answer, items_tested}
-use Rattle.register.specs.declared.member.Membership.{Membership}
+use Rattle.register.specs.declared.membership.Membership.{Membership}
 use Rattle.run.specs.declared.call.Reply.{Reply}
 use Rattle.run.specs.declared.call.Reply.TheVariants.{Answered, Accepted, Tested, Wrote, Nothing, LookedUp, Cleared, Refused, Declined}
 use Rattle.run.specs.History.{Asked, question, sheet, member, write, look_up, clear, Event, Evidence, given, settled_after, sheet_after, lent}

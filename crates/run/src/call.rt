@@ -4,7 +4,7 @@ use ledger::table::Settled;
 use model::rows::{Item, Row};
 use records::fault::CallFault;
 use records::sheet::Sheet;
-use register::member::Membership;
+use register::membership::Membership;
 use search::answer::Answer;
 
 /// A call. Rows and items are lent in these numbers; `Write` writes the sheet of the last question

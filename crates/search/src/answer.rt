@@ -7,7 +7,7 @@ ghost use Rattle.sides.specs.View.{view};
 ghost use Rattle.search.specs.Answered.{root_of, suits, Decided, Answered, Asked};
 
 use crate::blank::{blank_items, blank_rows, keep_unmarked};
-use crate::marking::settle;
+use crate::marks::settle;
 use crate::meeting::{End, meet};
 use model::machine::Machine;
 use model::rows::{Item, Row};

@@ -4,6 +4,6 @@
 
 pub mod answer;
 mod blank;
-mod marking;
+mod marks;
 pub mod meeting;
 mod refuting;

@@ -10,7 +10,7 @@ invariant-loop-taken l =
     ≡ meet_on (view l.machine l.covers) (room l.initial.book) (room l.initial.book + 1) 0 (holds l.initial.book))
     × (l.book.count ≤ room l.book)
     × (room l.book ≡ room l.initial.book)
-    × (l.book.records.name ≡ l.initial.book.records.name)
+    × (l.book.records.ghost_name ≡ l.initial.book.records.ghost_name)
 
 abbrev pub decreases-loop-taken : goal.decreases-loop-taken
 decreases-loop-taken l = room l.initial.book - l.taken

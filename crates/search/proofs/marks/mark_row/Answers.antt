@@ -1,7 +1,7 @@
 use Rattle.std.proofs.Common.{◌≡◌, ◌<◌, length, sym, ◌∙◌, arith}
 use Rattle.sides.specs.View.{view}
 use Rattle.marking.proofs.Turns.{used_below, step_none, step_new}
-use Rattle.search.proofs.marking.mark_row.Goals as goal
+use Rattle.search.proofs.marks.mark_row.Goals as goal
 
 pub bounds-items-used : goal.bounds-items-used
 bounds-items-used c =

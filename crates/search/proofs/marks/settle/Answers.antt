@@ -1,7 +1,7 @@
 use Rattle.std.proofs.Common.{◌≡◌, sym, ◌∙◌}
 use Rattle.sides.specs.View.{view}
 use Rattle.marking.proofs.Turns.{settle_start}
-use Rattle.search.proofs.marking.settle.Goals as goal
+use Rattle.search.proofs.marks.settle.Goals as goal
 
 pub loop-marks-init : goal.loop-marks-init
 loop-marks-init c =

@@ -1,7 +1,7 @@
 use Rattle.std.proofs.Common.{◌≤◌, length}
 use Rattle.sides.specs.View.{view}
 use Rattle.marking.specs.Steps.{Sweeping}
-use Rattle.search.proofs.marking.sweep.Given as goal
+use Rattle.search.proofs.marks.sweep.Given as goal
 
 abbrev pub invariant-loop-i : goal.invariant-loop-i
 invariant-loop-i l = (l.i ≤ length l.rows) ×
