@@ -15,7 +15,7 @@ unfolding excluded_fault has_spelled spelled_set
 returns-then-contains c =
     let m : Machine = view c.args.machine.now c.args.covers.now in
     let told = set_told (ltb (length c.args.items.now) (length c.args.sets.now)) (spelled_set m c.args.items.now) c.in-Some.set
-    (sym c.in-Some.is ∙ c.hedge-states.ensures) in
+    (sym c.in-Some.is ∙ c.hedge_states.ensures) in
     let test : (has_spelled m c.args.items.now c.args.left && not (has_spelled m c.args.items.now c.args.right)) ≡ true =
     ap (λ (s : StateSet). has s.bits c.args.left && not (has s.bits c.args.right)) (sym told.1)
     ∙ ap₂ (λ x y. x && not y) (sym c.contains.ensures) (sym c.contains-in-Some.ensures) ∙ c.if-contains.true in
@@ -26,7 +26,7 @@ unfolding excluded_fault has_spelled spelled_set
 returns-else-contains c =
     let m : Machine = view c.args.machine.now c.args.covers.now in
     let told = set_told (ltb (length c.args.items.now) (length c.args.sets.now)) (spelled_set m c.args.items.now) c.in-Some.set
-    (sym c.in-Some.is ∙ c.hedge-states.ensures) in
+    (sym c.in-Some.is ∙ c.hedge_states.ensures) in
     let test : (has_spelled m c.args.items.now c.args.left && not (has_spelled m c.args.items.now c.args.right)) ≡ false =
     ap (λ (s : StateSet). has s.bits c.args.left && not (has s.bits c.args.right)) (sym told.1)
     ∙ ap₂ (λ x y. x && not y) (sym c.contains.ensures) (sym c.contains-in-Some.ensures) ∙ c.if-contains.false in

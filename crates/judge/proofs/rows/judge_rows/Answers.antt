@@ -17,16 +17,16 @@ loop-i-preserved c =
     let S : Row → Bool = shown (at c.args.grounds.now.ledger.now) c.args.grounds.now.rules c.args.grounds.now.rows.now in
     rows_more m S c.args.grounds.now.rows.now c.loop-i.i c.loop-i-test.true c.loop-i.invariant
     (refusal_none (row_fault m S (c.loop-i.i + 3) (get_or c.args.grounds.now.rows.now c.loop-i.i blank_row))
-    c.in-ok-judge-row.ensures)
+    c.in_ok-judge_row.ensures)
 
-pub returns-in-err-judge-row : goal.returns-in-err-judge-row
-returns-in-err-judge-row c =
+pub returns-in_err-judge_row : goal.returns-in_err-judge_row
+returns-in_err-judge_row c =
     let m : Machine = view c.args.machine.now c.args.covers.now in
     let S : Row → Bool = shown (at c.args.grounds.now.ledger.now) c.args.grounds.now.rules c.args.grounds.now.rows.now in
-    let p = err_from_is_err_and c.from-residual.result c.from-residual.ensures.1 in
+    let p = err_from_is_err_and c.from_residual.result c.from_residual.ensures.1 in
     p.1 ∙ ap refusal (rows_here m S c.args.grounds.now.rows.now c.loop-i.i p.0 c.loop-i-test.true c.loop-i.invariant
     (refusal_some (row_fault m S (c.loop-i.i + 3) (get_or c.args.grounds.now.rows.now c.loop-i.i blank_row)) p.0
-    (ap (λ (f : SheetFault). Err f) p.2 ∙ c.in-err-judge-row.ensures)))
+    (ap (λ (f : SheetFault). Err f) p.2 ∙ c.in_err-judge_row.ensures)))
 
 pub returns : goal.returns
 returns c =
