@@ -264,7 +264,7 @@ excluded_exchanged t m g a b limit n la lb lo hi rows items s =
     (everywhere t m g Excluded a b limit [] is la lb lo hi (omega (arith, s.count, s.few, begun.3))
     (fit_together blank_item (item_fits t.names) 0 is (λ k lt.
     subst (λ j. item_fits t.names j (get_or is k blank_item) ≡ true) (omega arith)
-    (had_fits t m g a b la (meet m limit (root_of a b)).rows begun.2 is s.earlier (s.had (fits t m g)) k lt)))
+    (had_fits t m g a b la (meet m limit (root_of a b)).rows begun.2 is s.earlier (s.left_had (fits t m g)) k lt)))
     (λ settled. (excluded_witness m (states_few t m g) a b is (omega (arith, rules_few32 t m g))).1 (s.spells (fits t m g))))
   where
     is : List Item

@@ -20,7 +20,7 @@ use Rattle.meaning.specs.Names.{Kinded, Over}
 use Rattle.meaning.proofs.Members.{member_at}
 use Rattle.meaning.proofs.Names.{hedges_over_names}
 use Rattle.meaning.proofs.Simulation.{accepted_in}
-use Rattle.marking.specs.Marks.{Had}
+use Rattle.marking.specs.Marks.{LeftHad}
 use Rattle.records.specs.Places.{is_element, item_fits}
 use Rattle.search.specs.Answered.{root_of}
 use Rattle.tables.specs.Plain.{Plain}
@@ -104,7 +104,7 @@ over_fits names items earlier k lt over =
 
 -- every item of a list whose hedges are had by the left states of reachable rows fits its place
 pub had_fits : (t : Plain) (m : Machine) → ∥ Grounded t m ∥₁ → (a b : ℕ) → a < rules_of t → (rows : List Row) → ((r : Row) → Member r rows → Reachable m (root_of a b) r) →
-    (items : List Item) → Earlier items → Had m rows items → (k : ℕ) → k < length items → item_fits t.names k (get_or items k blank_item) ≡ true
+    (items : List Item) → Earlier items → LeftHad m rows items → (k : ℕ) → k < length items → item_fits t.names k (get_or items k blank_item) ≡ true
 had_fits t m g a b la rows reach items earlier had k lt = ∥∥₁_elim g (Bool-set _ _) (λ w.
     let h = had k lt in
     let q : ℕ = (get_or rows h.0 blank_row).left in

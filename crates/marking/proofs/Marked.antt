@@ -20,7 +20,7 @@ use Rattle.inequality.proofs.Marking.{tells_row}
 use Rattle.book.specs.Place.{place}
 use Rattle.book.proofs.Enter.{place_le}
 use Rattle.marking.specs.Refutes.{mark_of, first, joined, of_subset, of_covered, of_derivatives, refutation}
-use Rattle.marking.specs.Marks.{free, unset, SetAt, Had, Marked, Narrow, StillFrom, Rooted, flags}
+use Rattle.marking.specs.Marks.{free, unset, SetAt, Had, LeftHad, Marked, Narrow, StillFrom, Rooted, flags}
 use Rattle.marking.proofs.First.{first_found, first_none}
 use Rattle.marking.proofs.Spelling.{hedges_old, hedges_new, earlier_push}
 
@@ -134,6 +134,10 @@ unset_one marks i (suc n) lt is = ⊎_elim
     (λ ne. let rec = unset_one marks i n (omega arith) is in omega arith)
     (cases_eq i n)
 
+-- the left of a row is some state
+some_state : (m : Machine) (rows : List Row) (items : List Item) → LeftHad m rows items → Had m items
+some_state m rows items left k lt = let h = left k lt in ((get_or rows h.0 blank_row).left, h.2)
+
 -- how marking begins: the inconsistent rows are marked by the empty hedge
 pub marked_start : (m : Machine) (rows : List Row) (marks : List ℕ) →
     ((i : ℕ) → i < length rows → get_or marks i 0 ≡ cond (inconsistent m (get_or rows i blank_row)) 1 0) → Marked m rows marks []
@@ -148,6 +152,7 @@ marked_start m rows marks begun = record {
   inconsistent_set = λ i li is z. let e : get_or marks i 0 ≡ 1 = begun i li ∙ cond-true _ _ _ is in omega arith;
   earlier = λ k lt. absurd (omega arith);
   had = λ fits k lt. absurd (omega arith);
+  left_had = λ fits k lt. absurd (omega arith);
   few = let h = unset_most marks (length rows) in omega arith;
 }
   where
@@ -243,6 +248,15 @@ module _ (m : Machine) (rows : List Row) (marks : List ℕ) (items : List Item) 
   other_is : (p : ℕ) → (p ≡ i → ⊥) → get_or more p 0 ≡ get_or marks p 0
   other_is p ne = get_or-set_other marks i p (n_items + 2) 0 ne
 
+  left_more : Fits m → LeftHad m rows (items ++ x ∷ [])
+  left_more fits p lp = ⊎_elim
+      (λ (lt : p < n_items). let old = ok.left_had fits p lt in
+      (old.0, old.1, ap (λ (h : Hedge). accepts m h (get_or rows old.0 blank_row).left) (hedges_old items x (p + 1) (omega arith)) ∙ old.2))
+      (λ (ge : n_items ≤ p).
+      let e : p ≡ n_items = let l = length_push items x in omega arith in
+      (i, li, ap (λ q. accepts m (get_or (hedges (items ++ x ∷ [])) (q + 1) nothing) r.left) e ∙ (new_witness fits).0))
+      (cases_lt p n_items)
+
   pub marked_more : Marked m rows more (items ++ x ∷ [])
   marked_more = record {
     refuted = λ p lp is_set. ⊎_elim
@@ -272,13 +286,8 @@ module _ (m : Machine) (rows : List Row) (marks : List ℕ) (items : List Item) 
     earlier = earlier_push items x ok.earlier
         (let a = (side content both.0).2 in let e = ap (λ (y : Item). y.child) both.2 in omega arith)
         (let a = (side rest both.1).2 in let e = ap (λ (y : Item). y.next) both.2 in omega arith);
-    had = λ fits p lp. ⊎_elim
-        (λ (lt : p < n_items). let old = ok.had fits p lt in
-        (old.0, old.1, ap (λ (h : Hedge). accepts m h (get_or rows old.0 blank_row).left) (hedges_old items x (p + 1) (omega arith)) ∙ old.2))
-        (λ (ge : n_items ≤ p).
-        let e : p ≡ n_items = let l = length_push items x in omega arith in
-        (i, li, ap (λ q. accepts m (get_or (hedges (items ++ x ∷ [])) (q + 1) nothing) r.left) e ∙ (new_witness fits).0))
-        (cases_lt p n_items);
+    had = λ fits. some_state m rows (items ++ x ∷ []) (left_more fits);
+    left_had = left_more;
     few = let a = unset_less marks i (n_items + 2) (length rows) li long was (λ z. none n_items (sym z)) in
         let b = ok.few in let l = length_push items x in omega arith;
   }

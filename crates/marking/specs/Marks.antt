@@ -23,14 +23,18 @@ unset marks (suc n) = unset marks n + free (slice_index marks n)
 abbrev pub SetAt : List ℕ → ℕ → Type 0
 SetAt marks i = slice_index marks i ≡ 0 → ⊥
 
+-- each hedge that an item begins is had by some state
+abbrev pub Had : Machine → List Item → Type 0
+Had m items = (k : ℕ) → k < length items → (q : ℕ) × (accepts m (slice_index_or (hedges items) (k + 1) nothing) q ≡ true)
+
 -- each hedge that an item begins is had by the left state of some row
-abbrev pub Had : Machine → List Row → List Item → Type 0
-Had m rows items = (k : ℕ) → k < length items →
+abbrev pub LeftHad : Machine → List Row → List Item → Type 0
+LeftHad m rows items = (k : ℕ) → k < length items →
     (i : ℕ) × (i < length rows) × (accepts m (slice_index_or (hedges items) (k + 1) nothing) (get_or rows i blank_row).left ≡ true)
 
 -- Marks and items agree: a marked row is refuted, and where the machine's tables fit, the hedge of its
 -- mark is a witness against it; inconsistent rows are marked; children and nexts of items are
--- earlier, and each item's hedge is had by the left of some row; there are no more items than marked rows.
+-- earlier, and each item's hedge is had by some state, the left of some row; there are no more items than marked rows.
 pub record Marked (m : Machine) (rows : List Row) (marks : List ℕ) (items : List Item) : Type 0 where
   pub refuted : (i : ℕ) → i < length rows → SetAt marks i → Refuted m (slice_index_or rows i blank_row)
   pub witness : (i : ℕ) → i < length rows → SetAt marks i → Fits m →
@@ -38,7 +42,8 @@ pub record Marked (m : Machine) (rows : List Row) (marks : List ℕ) (items : Li
   pub known : (i : ℕ) → i < length rows → slice_index marks i ≤ length items + 1
   pub inconsistent_set : (i : ℕ) → i < length rows → inconsistent m (slice_index_or rows i blank_row) ≡ true → SetAt marks i
   pub earlier : Earlier items
-  pub had : Fits m → Had m rows items
+  pub had : Fits m → Had m items
+  pub left_had : Fits m → LeftHad m rows items
   pub few : length items + unset marks (length rows) ≤ length rows
 
 -- no row is wide

@@ -18,7 +18,7 @@ use Rattle.ledger.specs.declared.table.Settled.TheVariants.{Unsettled, Included 
 use Rattle.ledger.specs.Settled.{enters}
 use Rattle.search.specs.declared.answer.Answer.{Answer}
 use Rattle.search.specs.declared.answer.Answer.TheVariants.{Included, Excluded, Wide, OutOfRows}
-use Rattle.search.specs.Answered.{root_of, Answered, Blanked}
+use Rattle.search.specs.Answered.{root_of, suits, Asked, Answered, Blanked}
 use Rattle.tables.specs.Plain.{Plain}
 use Rattle.load.specs.Loaded.{bodies_of}
 use Rattle.law.specs.Claims.{Includes, Lacks}
@@ -47,9 +47,14 @@ RefusedBlank (Ok x) limit room rows items = Unit {0}
 RefusedBlank (Err f) limit room rows items = Blanked limit room rows items
 
 -- what a question leaves: by its answer, or all blank
-abbrev pub QuestionLeaves : Machine → ℕ → ℕ → ℕ → ℕ → Result Answer CallFault → List Row → List Item → Type 0
-QuestionLeaves m a b limit room (Ok answer) rows items = Answered m (root_of a b) limit room answer rows items
-QuestionLeaves m a b limit room (Err f) rows items = Blanked limit room rows items
+abbrev pub QuestionLeaves : Machine → ℕ → ℕ → ℕ → ℕ → ℕ → Result Answer CallFault → List Row → List Item → Type 0
+QuestionLeaves m a b limit room marks (Ok answer) rows items = Asked m (root_of a b) limit room (suits limit room marks) answer rows items
+QuestionLeaves m a b limit room marks (Err f) rows items = Blanked limit room rows items
+
+-- what a question is answered, and what it leaves: as defined, or all blank
+abbrev pub QuestionAnswered : Machine → ℕ → ℕ → ℕ → ℕ → Result Answer CallFault → List Row → List Item → Type 0
+QuestionAnswered m a b limit room (Ok answer) rows items = Answered m (root_of a b) limit room answer rows items
+QuestionAnswered m a b limit room (Err f) rows items = Blanked limit room rows items
 
 -- the settled pairs after a question: its verdict is entered, nothing else changes
 abbrev pub question_settles : (ℕ → ℕ → Settled) → ℕ → ℕ → Result Answer CallFault → ℕ → ℕ → Settled

@@ -6,6 +6,7 @@ ghost use Rattle.sides.specs.View.{view};
 ghost use Rattle.tables.specs.Plain.{plain};
 ghost use Rattle.records.specs.Reading.{padded};
 ghost use Rattle.register.specs.Member.{member_outcome, member_answer, items_tested, MemberTrue};
+ghost use Rattle.register.specs.Calls.{RefusedBlank};
 
 use crate::blank::{blank, first};
 use crate::register::Register;
@@ -50,6 +51,7 @@ impl Register<'_, '_> {
         ensures result { result ≡ member_answer (view self.old.grammar.now.machine self.old.covers) rule (member_outcome (plain self.old.grammar.now.tables) rule (length rows.old) (length items.old) text.now) }
         ensures rows { rows.new ≡ replicate (length rows.old) blank_row }
         ensures items { items.new ≡ padded blank_item (length items.old) (items_tested (member_outcome (plain self.old.grammar.now.tables) rule (length rows.old) (length items.old) text.now)) }
+        ensures leaves { RefusedBlank result (length rows.old) (length items.old) rows.new items.new }
         ensures truth { MemberTrue (plain self.old.grammar.now.tables) (view self.old.grammar.now.machine self.old.covers) rule result items.new }
         ensures ledger { self.new.ledger ≡ self.old.ledger }
         ensures grammar { self.new.grammar ≡ self.old.grammar }

@@ -1,11 +1,11 @@
 //! Questions.
-ghost use Rattle.std.specs.Prelude.{◌≡◌, ℕ, length, IfOk, Ok};
+ghost use Rattle.std.specs.Prelude.{◌≡◌, ℕ, length, IfOk, Ok, vec_len};
 ghost use Rattle.ledger.specs.Settled.{at};
 ghost use Rattle.sides.specs.View.{view};
 ghost use Rattle.tables.specs.Plain.{plain};
 ghost use Rattle.law.specs.Question.{VerdictTrue, Exactly};
 ghost use Rattle.law.specs.Sheets.{Exchanged};
-ghost use Rattle.register.specs.Calls.{question_checked, Agrees, QuestionLeaves, question_settles};
+ghost use Rattle.register.specs.Calls.{question_checked, Agrees, QuestionLeaves, QuestionAnswered, question_settles};
 
 use crate::blank::blank;
 use crate::register::Register;
@@ -52,7 +52,8 @@ impl Register<'_, '_> {
         items: &mut [Item],
     ) -> Result<Answer, CallFault>
         ensures told { Agrees (question_checked (length (plain self.old.grammar.now.tables).bodies) left right (length rows.old) (length items.old)) result }
-        ensures leaves { QuestionLeaves (view self.old.grammar.now.machine self.old.covers) left right (length rows.old) (length items.old) result rows.new items.new }
+        ensures leaves { QuestionLeaves (view self.old.grammar.now.machine self.old.covers) left right (length rows.old) (length items.old) (vec_len self.old.marks) result rows.new items.new }
+        ensures answered { QuestionAnswered (view self.old.grammar.now.machine self.old.covers) left right (length rows.old) (length items.old) result rows.new items.new }
         ensures truth { IfOk result (λ answer. VerdictTrue (plain self.old.grammar.now.tables) (view self.old.grammar.now.machine self.old.covers) left right answer rows.new items.new) }
         ensures exact { IfOk result (λ answer. Exactly (view self.old.grammar.now.machine self.old.covers) left right (length rows.old) answer) }
         ensures exchange { IfOk result (λ answer. Exchanged (plain self.old.grammar.now.tables) (view self.old.grammar.now.machine self.old.covers) left right answer rows.new items.new) }

@@ -10,7 +10,7 @@ ghost use Rattle.writing.specs.Checks.{sheet_written};
 ghost use Rattle.writing.specs.Texts.{sheet_text};
 ghost use Rattle.writing.specs.Wrote.{filled};
 ghost use Rattle.law.specs.Sheets.{sheet_outcome, sheet_answer, rows_left, items_left, OutcomeTrue};
-ghost use Rattle.register.specs.Calls.{settles as settles_as, sheet_judged, sheet_settles};
+ghost use Rattle.register.specs.Calls.{settles as settles_as, sheet_judged, sheet_settles, RefusedBlank};
 
 use crate::blank::{blank, first};
 use crate::register::Register;
@@ -94,6 +94,7 @@ impl Register<'_, '_> {
         ensures result { result ≡ sheet_answer (sheet_outcome (plain self.old.grammar.now.tables) (view self.old.grammar.now.machine self.old.covers) (at self.old.ledger) (length rows.old) (length items.old) text.now) }
         ensures rows { rows.new ≡ padded blank_row (length rows.old) (rows_left (sheet_outcome (plain self.old.grammar.now.tables) (view self.old.grammar.now.machine self.old.covers) (at self.old.ledger) (length rows.old) (length items.old) text.now)) }
         ensures items { items.new ≡ padded blank_item (length items.old) (items_left (sheet_outcome (plain self.old.grammar.now.tables) (view self.old.grammar.now.machine self.old.covers) (at self.old.ledger) (length rows.old) (length items.old) text.now)) }
+        ensures leaves { RefusedBlank result (length rows.old) (length items.old) rows.new items.new }
         ensures truth { OutcomeTrue (plain self.old.grammar.now.tables) (view self.old.grammar.now.machine self.old.covers) (sheet_outcome (plain self.old.grammar.now.tables) (view self.old.grammar.now.machine self.old.covers) (at self.old.ledger) (length rows.old) (length items.old) text.now) }
         ensures written { IfOk result (λ s. text.now ≡ sheet_text s rows.new items.new) }
         ensures settled { (c d : ℕ) → at self.new.ledger c d ≡ sheet_settles (at self.old.ledger) result c d }

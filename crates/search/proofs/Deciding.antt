@@ -13,7 +13,7 @@ use Rattle.inequality.specs.Marks.{Sided, Right, marks}
 use Rattle.inequality.specs.Verdicts.{unmarked, excluded, table}
 use Rattle.inequality.proofs.Marking.{marks_right}
 use Rattle.inequality.proofs.Verdict.{right_unique, excluded_refuted}
-use Rattle.marking.specs.Marks.{SetAt, Had, Marked, flags, StillFrom}
+use Rattle.marking.specs.Marks.{SetAt, Had, LeftHad, Marked, flags, StillFrom}
 use Rattle.marking.specs.Steps.{Ready, Settled}
 use Rattle.marking.proofs.Marked.{still_right}
 use Rattle.marking.proofs.Turns.{used_within}
@@ -41,7 +41,8 @@ module _ (m : Machine) (met : List Row) (ms : List ℕ) (items : List Item) (use
     earlier = subst Earlier (sym same) ok.earlier;
     spells = λ fits. subst (λ l. Witness m (get_or met 0 blank_row) (spelled l)) (sym same)
         (subst (λ k. Witness m (get_or met 0 blank_row) (get_or (hedges its) k nothing)) number (ok.witness 0 some is_set fits));
-    had = λ fits. subst (Had m met) (sym same) (ok.had fits);
+    had = λ fits. subst (Had m) (sym same) (ok.had fits);
+    left_had = λ fits. subst (LeftHad m met) (sym same) (ok.left_had fits);
     first_items = written ∙ ap (λ l. l ++ replicate (room - used) blank_item) (sym same);
     no_rows = blank_rows;
   }

@@ -10,7 +10,7 @@ use Rattle.theory.specs.Items.{spelled, Earlier}
 use Rattle.theory.specs.Meeting.{meet, all, wide_row, out_of_rows}
 use Rattle.inequality.specs.Fits.{Fits, Witness}
 use Rattle.inequality.specs.Verdicts.{excluded, table}
-use Rattle.marking.specs.Marks.{Had}
+use Rattle.marking.specs.Marks.{Had, LeftHad}
 use Rattle.search.specs.declared.answer.Answer.{Answer}
 use Rattle.search.specs.declared.answer.Answer.TheVariants.{Included, Excluded, Wide, OutOfRows}
 
@@ -32,14 +32,15 @@ pub record Shown (m : Machine) (met : List Row) (limit room records : ℕ) (rows
 
 -- After "excluded": the root is refuted; the first items, no more than rows were met, spell a hedge
 -- that the left of the root has and no state on its right; each item refers to earlier ones, and
--- its hedge is had by the left state of some row met; all else is blank.
+-- its hedge is had by some state, the left of some row met; all else is blank.
 pub record Refused (m : Machine) (met : List Row) (root : Row) (limit room records : ℕ) (rows : List Row) (items : List Item) : Type 0 where
   pub verdict : excluded m met ≡ true
   pub few : records ≤ length met
   pub count : length (take records items) ≡ records
   pub earlier : Earlier (take records items)
   pub spells : Fits m → Witness m root (spelled (take records items))
-  pub had : Fits m → Had m met (take records items)
+  pub had : Fits m → Had m (take records items)
+  pub left_had : Fits m → LeftHad m met (take records items)
   pub first_items : items ≡ take records items ++ replicate (room - records) blank_item
   pub no_rows : rows ≡ replicate limit blank_row
 

@@ -13,7 +13,7 @@ returns c =
     let t : Plain = plain self.grammar.now.tables in
     let m : Machine = view self.grammar.now.machine self.covers in
     record {
-      result = looked (rules_of t) (at self.ledger) c.args.left c.args.right c.look-up.result _ _
-          c.in-ok-check-rule.ensures c.in-ok-check-rule-2.ensures c.look-up.ensures;
-      truth = found_true t m (at self.ledger) c.args.left c.args.right c.look-up.result self.truth c.look-up.ensures;
+      result = looked (rules_of t) (at self.ledger) c.args.left c.args.right c.look_up.result _ _
+          c.in_ok-check_rule.ensures c.in_ok-check_rule-2.ensures c.look_up.ensures;
+      truth = found_true t m (at self.ledger) c.args.left c.args.right c.look_up.result self.truth c.look_up.ensures;
     }

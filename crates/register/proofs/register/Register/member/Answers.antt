@@ -10,13 +10,14 @@ returns c =
     let self = c.args.self.now in
     let t : Plain = plain self.grammar.now.tables in
     let m : Machine = view self.grammar.now.machine self.covers in
-    let x = tested t m self.grounded c.args.rule (length c.args.rows.now) (length c.args.items.now) c.args.text.now c.in-default.field-0
-    c.names.result.now c.in-ok-records.records c.read-hedge.new.items c.first.result.now c.has-yes.result
-    c.in-default.ensures c.names.ensures c.in-ok-records.ensures.result c.in-ok-records.ensures.items c.first.ensures c.has-yes.ensures.has in
+    let x = tested t m self.grounded c.args.rule (length c.args.rows.now) (length c.args.items.now) c.args.text.now c.in_default.field-0
+    c.names.result.now c.in_ok-records.records c.read_hedge.new.items c.first.result.now c.has-yes.result
+    c.in_default.ensures c.names.ensures c.in_ok-records.ensures.result c.in_ok-records.ensures.items c.first.ensures c.has-yes.ensures.has in
     record {
       result = x.result;
-      rows = c.in-ok-records.ensures.rows;
+      rows = c.in_ok-records.ensures.rows;
       items = x.items_are;
+      leaves = tt;
       truth = x.truth;
       ledger = c.has-yes.ensures.ledger;
       grammar = c.has-yes.ensures.grammar;

@@ -30,16 +30,17 @@ returns-in-Err c =
     let m : Machine = view self.grammar.now.machine self.covers in
     let n : ℕ = length c.args.rows.now in
     let k : ℕ = length c.args.items.now in
-    let j = judging t m (at self.ledger) (vec_len self.sets) n k c.args.text.now c.in-ok-sheet.sheet (Err c.in-Err.fault)
+    let j = judging t m (at self.ledger) (vec_len self.sets) n k c.args.text.now c.in_ok-sheet.sheet (Err c.in-Err.fault)
     c.read.new.rows c.read.new.items self.sized.1
-    c.in-ok-sheet.ensures.result c.in-ok-sheet.ensures.rows c.in-ok-sheet.ensures.items c.in-Err.ensures.judged in
+    c.in_ok-sheet.ensures.result c.in_ok-sheet.ensures.rows c.in_ok-sheet.ensures.items c.in-Err.ensures.judged in
     let l : Leaves t m (sheet_outcome t m (at self.ledger) n k c.args.text.now) n k c.args.text.now (Err c.in-Err.fault) c.blank.new.rows c.blank.new.items =
     refused t m (at self.ledger) n k c.args.text.now j.f c.in-Err.fault c.blank.new.rows c.blank.new.items j.is_read j.judged_so
     (c.blank.ensures.rows ∙ ap (λ x. replicate x blank_row) c.read.auto.rows) (c.blank.ensures.items ∙ ap (λ x. replicate x blank_item) c.read.auto.items) in
     record {
       result = l.result;
-      rows = l.rows-are;
-      items = l.items-are;
+      rows = l.rows_are;
+      items = l.items_are;
+      leaves = (c.blank.ensures.rows ∙ ap (λ x. replicate x blank_row) c.read.auto.rows, c.blank.ensures.items ∙ ap (λ x. replicate x blank_item) c.read.auto.items);
       truth = l.truth;
       written = tt;
       settled = λ a b. ap (λ x. at x a b) c.judge.ensures.ledger;
@@ -47,23 +48,23 @@ returns-in-Err c =
       covers = c.judge.ensures.covers;
     }
 
-pub invariant-of-self : goal.invariant-of-self
-invariant-of-self c =
+pub invariant_of-self : goal.invariant_of-self
+invariant_of-self c =
     let self = c.args.self.now in
     let t : Plain = plain self.grammar.now.tables in
     let m : Machine = view self.grammar.now.machine self.covers in
     let n : ℕ = length c.args.rows.now in
     let k : ℕ = length c.args.items.now in
-    let j = judging t m (at self.ledger) (vec_len self.sets) n k c.args.text.now c.in-ok-sheet.sheet (Ok c.in-default.field-0)
+    let j = judging t m (at self.ledger) (vec_len self.sets) n k c.args.text.now c.in_ok-sheet.sheet (Ok c.in_default.field-0)
     c.read.new.rows c.read.new.items self.sized.1
-    c.in-ok-sheet.ensures.result c.in-ok-sheet.ensures.rows c.in-ok-sheet.ensures.items c.in-default.ensures.judged in
-    let all = entered t m self.grounded (at self.ledger) self.truth n k c.args.text.now c.in-ok-sheet.sheet c.in-default.field-0 _ _ j (at c.enter.new.self) c.settles.result
+    c.in_ok-sheet.ensures.result c.in_ok-sheet.ensures.rows c.in_ok-sheet.ensures.items c.in_default.ensures.judged in
+    let all = entered t m self.grounded (at self.ledger) self.truth n k c.args.text.now c.in_ok-sheet.sheet c.in_default.field-0 _ _ j (at c.enter.new.self) c.settles.result
     (λ a b. c.enter.ensures a b
-    ∙ ap (λ x. enters (at x) c.in-ok-sheet.sheet.left c.in-ok-sheet.sheet.right c.settles.result a b) c.judge.ensures.ledger)
+    ∙ ap (λ x. enters (at x) c.in_ok-sheet.sheet.left c.in_ok-sheet.sheet.right c.settles.result a b) c.judge.ensures.ledger)
     c.settles.ensures in
     let P : Covers → Type 0 = λ v. ∥ AllTrue (bodies_of t) (rules_of t) (covers_of v) (at c.enter.new.self) ∥₁ in
     let Q : Bor Grammar → Type 0 = λ g. ∥ AllTrue (bodies_of (plain g.now.tables)) (rules_of (plain g.now.tables)) (covers_of c.judge.new.self.covers) (at c.enter.new.self) ∥₁ in
-    (c.judge.new.self.sized, (c.judge.new.self.grounded, (subst Q (sym c.judge.ensures.grammar) (subst P (sym c.judge.ensures.covers) all), tt)))
+    record { sized = c.judge.new.self.sized; grounded = c.judge.new.self.grounded; truth = subst Q (sym c.judge.ensures.grammar) (subst P (sym c.judge.ensures.covers) all) }
 
 pub returns : goal.returns
 returns c =
@@ -72,22 +73,23 @@ returns c =
     let m : Machine = view self.grammar.now.machine self.covers in
     let n : ℕ = length c.args.rows.now in
     let k : ℕ = length c.args.items.now in
-    let j = judging t m (at self.ledger) (vec_len self.sets) n k c.args.text.now c.in-ok-sheet.sheet (Ok c.in-default.field-0)
+    let j = judging t m (at self.ledger) (vec_len self.sets) n k c.args.text.now c.in_ok-sheet.sheet (Ok c.in_default.field-0)
     c.read.new.rows c.read.new.items self.sized.1
-    c.in-ok-sheet.ensures.result c.in-ok-sheet.ensures.rows c.in-ok-sheet.ensures.items c.in-default.ensures.judged in
-    let l : Leaves t m (sheet_outcome t m (at self.ledger) n k c.args.text.now) n k c.args.text.now (Ok c.in-ok-sheet.sheet) c.read.new.rows c.read.new.items =
+    c.in_ok-sheet.ensures.result c.in_ok-sheet.ensures.rows c.in_ok-sheet.ensures.items c.in_default.ensures.judged in
+    let l : Leaves t m (sheet_outcome t m (at self.ledger) n k c.args.text.now) n k c.args.text.now (Ok c.in_ok-sheet.sheet) c.read.new.rows c.read.new.items =
     subst (λ x. Leaves t m (sheet_outcome t m (at self.ledger) n k c.args.text.now) n k c.args.text.now (Ok x) c.read.new.rows c.read.new.items) j.sheet
-    (accepted t m self.grounded (at self.ledger) self.truth n k c.args.text.now j.f c.in-default.field-0 c.read.new.rows c.read.new.items j.is_read j.judged_so
+    (accepted t m self.grounded (at self.ledger) self.truth n k c.args.text.now j.f c.in_default.field-0 c.read.new.rows c.read.new.items j.is_read j.judged_so
     j.rows_are j.items_are) in
     record {
       result = l.result;
-      rows = l.rows-are;
-      items = l.items-are;
+      rows = l.rows_are;
+      items = l.items_are;
+      leaves = tt;
       truth = l.truth;
       written = l.written;
       settled = λ a b. c.enter.ensures a b
-          ∙ ap (λ x. enters (at x) c.in-ok-sheet.sheet.left c.in-ok-sheet.sheet.right c.settles.result a b) c.judge.ensures.ledger
-          ∙ ap (λ v. enters (at self.ledger) c.in-ok-sheet.sheet.left c.in-ok-sheet.sheet.right v a b) c.settles.ensures;
+          ∙ ap (λ x. enters (at x) c.in_ok-sheet.sheet.left c.in_ok-sheet.sheet.right c.settles.result a b) c.judge.ensures.ledger
+          ∙ ap (λ v. enters (at self.ledger) c.in_ok-sheet.sheet.left c.in_ok-sheet.sheet.right v a b) c.settles.ensures;
       grammar = c.judge.ensures.grammar;
       covers = c.judge.ensures.covers;
     }
