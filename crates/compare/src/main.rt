@@ -8,20 +8,15 @@ mod show;
 mod words;
 
 use commands::obey;
+use std::process::ExitCode;
 
-/// The program ends without success; what there is to say was said.
-#[derive(Clone, Copy)]
-enum Failure {
-    Told,
-}
-
-fn main(rt: HostRuntime) -> Result<(), Failure> {
+fn main(rt: HostRuntime) -> ExitCode {
     match obey(&rt) {
-        Ok(true) => Ok(()),
-        Ok(false) => Err(Failure::Told),
+        Ok(true) => ExitCode::SUCCESS,
+        Ok(false) => ExitCode::FAILURE,
         Err(error) => {
             let _ = eprintln!(rt; "{error}");
-            Err(Failure::Told)
+            ExitCode::FAILURE
         }
     }
 }
