@@ -1,6 +1,6 @@
 -- Entering list after list.
 use Rattle.std.proofs.Common.{◌≡◌, ℕ, zero, suc, ◌+◌, ◌<◌, ◌≤◌, min, Bool, true, false, cond, leb, List, [], ◌∷◌, ◌++◌, length, take, sym, refl, ap, ◌∙◌, subst, ⊎_elim, add-one, arith}
-use Rattle.std.proofs.lemmas.Bool.{cond-true, cond-false, le-leb, lt-leb, leb-true, leb-false, cases_Bool, cases_eq, cases_lt}
+use Rattle.std.proofs.lemmas.Bool.{cond-true, cond-false, le-leb, lt-leb, leb-true, leb-false, cases_eq, cases_lt}
 use Rattle.std.proofs.lemmas.List.{take_all, append-nil, append_assoc, length-append, take-append-le, length-take}
 use Rattle.theory.specs.Count.{any, each, enter, entered}
 use Rattle.book.specs.declared.Book.{Book}

@@ -1,5 +1,5 @@
 -- The numbers that a book gives to its records.
-use Rattle.std.specs.Prelude.{ℕ, zero, suc, Bool, cond, List, [], ◌∷◌, length, Some, None, Option, nat_lt}
+use Rattle.std.specs.Prelude.{ℕ, suc, Bool, cond, List, [], ◌∷◌, length, Some, None, Option, nat_lt}
 use Rattle.theory.specs.Count.{enter}
 
 -- the number of the first record that is the same as x; if none is, how many records there are

@@ -1,21 +1,21 @@
 -- Derivatives by numbers: lists of them, and what the program computes node by node.
-use Rattle.std.proofs.Common.{◌≡◌, ℕ, suc, ◌+◌, ◌-◌, ◌<◌, ◌≤◌, min, Bool, true, false, cond, ◌&&◌, eqb, ltb, ◌⊎◌, List, [], ◌∷◌, ◌++◌, map, length, get_or, take, drop, sym, refl, ap, ◌∙◌, subst, ap₂, inl, inr, ⊎_elim, arith}
+use Rattle.std.proofs.Common.{◌≡◌, ℕ, suc, ◌+◌, ◌-◌, ◌<◌, ◌≤◌, Bool, true, false, cond, ◌&&◌, eqb, ltb, List, [], ◌∷◌, ◌++◌, map, length, get_or, take, drop, sym, refl, ap, ◌∙◌, subst, ap₂, ⊎_elim, arith}
 use native.Mathlib.Nat.{sub_self}
-use Rattle.std.proofs.lemmas.Bool.{cases_lt, cond-true, cond-false, lt-ltb, le-ltb, false≢true, eq-eqb, eqb-true, and_parts, and_from}
-use Rattle.std.proofs.lemmas.List.{get_or_past, drop_more, length-append, drop-append-le, take-append-le, length-drop, take_at, drop_at, append-nil, take_all}
+use Rattle.std.proofs.lemmas.Bool.{cases_lt, cond-true, cond-false, lt-ltb, le-ltb, eq-eqb, eqb-true}
+use Rattle.std.proofs.lemmas.List.{get_or_past, drop_more, length-append, drop-append-le, take-append-le, length-drop, drop_at, take_all}
 use Rattle.model.specs.declared.nodes.Node.{Node}
 use Rattle.model.specs.declared.nodes.Node.TheVariants.{Nothing, Empty, Simple, Rule, Element, Union, Seq, Star}
 use Rattle.model.specs.Machine.{Derivative}
 use Rattle.theory.specs.Language.{Expr, none, empty, simple, rule, element, union, seq, star}
 use Rattle.theory.specs.Derivative.{join}
 use Rattle.theory.specs.Tree.{body_of}
-use Rattle.theory.specs.Count.{enter, entered}
+use Rattle.theory.specs.Count.{entered}
 use Rattle.theory.specs.Inequality.{Member, here, there}
-use Rattle.meaning.specs.Functions.{Derived, derivatives?, nullable?, nulls_of, rule_ders, grown, once, joined, same_derived, same_expr}
+use Rattle.meaning.specs.Functions.{nullable?, nulls_of, rule_ders, grown, once, joined, same_derived, same_expr}
 use Rattle.meaning.proofs.Functions.{same_expr_equal, equal_same_expr}
-use Rattle.meaning.proofs.Members.{entered_member, enter_map, entered_map, entered_append, member_left, member_right, member_either, member_one}
+use Rattle.meaning.proofs.Members.{entered_member, entered_map, member_either, member_one}
 use Rattle.meaning.proofs.Rules.{grown_at, grown_length}
-use Rattle.expressions.specs.Numbers.{earlier, body_at, tree, built, null_at}
+use Rattle.expressions.specs.Numbers.{earlier, tree, built, null_at}
 use Rattle.expressions.specs.Records.{same_derivative}
 use Rattle.expressions.specs.Fine.{Fine, Below, Grows, shown}
 use Rattle.expressions.specs.Derived.{part, as_trees, InBook, AllIn, ders_below, ders_at, ders_node}

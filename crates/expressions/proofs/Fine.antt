@@ -1,17 +1,16 @@
 -- Books of expressions as they are added to.
-use Rattle.std.proofs.Common.{◌≡◌, ℕ, zero, suc, ◌+◌, ◌<◌, ◌≤◌, Bool, true, false, cond, ◌&&◌, eqb, List, [], ◌∷◌, ◌++◌, map, length, get_or, drop, sym, refl, ap, ◌∙◌, subst, ap₂, ⊎_elim, append_assoc, append-nil, arith}
-use Rattle.std.proofs.lemmas.List.{length_push, length-append, get_or_append_left, get_or_push, get_or_past, drop_at, get_or-map, length-map, ext_get_or}
-use Rattle.std.proofs.lemmas.Bool.{cases_lt, cond-true, cond-false, lt-ltb, and_parts, and_from, eqb-true, eq-eqb}
+use Rattle.std.proofs.Common.{◌≡◌, ℕ, zero, suc, ◌<◌, ◌≤◌, Bool, true, false, cond, eqb, List, [], ◌∷◌, ◌++◌, length, get_or, drop, sym, refl, ap, ◌∙◌, subst, ap₂, ⊎_elim, append_assoc, append-nil, arith}
+use Rattle.std.proofs.lemmas.List.{length_push, length-append, get_or_append_left, get_or_push, drop_at}
+use Rattle.std.proofs.lemmas.Bool.{cases_lt, cond-true, lt-ltb, and_parts, and_from, eqb-true, eq-eqb}
 use Rattle.model.specs.declared.nodes.Node.{Node}
 use Rattle.model.specs.declared.nodes.Node.TheVariants.{Nothing, Empty, Simple, Rule, Element, Union, Seq, Star}
 use Rattle.model.specs.Machine.{Derivative}
-use Rattle.theory.specs.Language.{Expr, none, empty, simple, rule, element, union, seq, star}
+use Rattle.theory.specs.Language.{element, union, seq, star}
 use Rattle.theory.specs.Count.{enter}
-use Rattle.theory.specs.Tree.{body_of, trees}
-use Rattle.expressions.specs.Numbers.{earlier, tree, built}
+use Rattle.expressions.specs.Numbers.{tree, built}
 use Rattle.expressions.specs.Records.{place, same_node, same_derivative, key}
-use Rattle.expressions.specs.Fine.{PartsBelow, make, Founded, Distinct, Fine, Below, Grows, shown}
-use Rattle.expressions.proofs.Trees.{tree_built, tree_stays, tree_past}
+use Rattle.expressions.specs.Fine.{PartsBelow, make, Founded, Distinct, Fine, Below, Grows}
+use Rattle.expressions.proofs.Trees.{tree_built, tree_stays}
 use Rattle.expressions.proofs.Books.{place_le, enter_old, enter_new}
 
 -- sameness of nodes

@@ -1,10 +1,10 @@
 -- The test of lawful recursion accepts a rule exactly when it is lawful.
-use Rattle.std.proofs.Common.{◌≡◌, ℕ, ◌<◌, ◌≤◌, Bool, true, false, cond, ◌||◌, ltb, leb, ◌⊎◌, sym, refl, ap, ◌∙◌, inl, inr, ⊎_elim, arith}
+use Rattle.std.proofs.Common.{◌≡◌, ℕ, ◌<◌, ◌≤◌, Bool, true, false, cond, ◌||◌, ◌⊎◌, sym, refl, ap, ◌∙◌, inl, inr, ⊎_elim, arith}
 use Rattle.std.proofs.lemmas.Bool.{false≢true, or_cases, leb-true, leb-false, ltb-true, ltb-false, cases_lt, cases_eq}
 use Rattle.theory.specs.Language.{Expr, none, empty, simple, rule, element, union, seq, star}
 use Rattle.theory.specs.Derivative.{Null}
 use Rattle.theory.specs.Recursion.{Mentions, mention, of_left, of_right, of_first, of_second, of_guarded, of_star, LawfulRule, LawfulRules}
-use Rattle.meaning.specs.Functions.{nullable?, nulls_of, nullable_of, OfRules}
+use Rattle.meaning.specs.Functions.{nullable?, nulls_of, nullable_of}
 use Rattle.meaning.proofs.Functions.{nullable_sound}
 use Rattle.meaning.proofs.Rules.{nulls_sound, nullable_law}
 use Rattle.expressions.specs.Ways.{bent, guarded, open?}

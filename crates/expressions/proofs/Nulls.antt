@@ -1,5 +1,5 @@
 -- Nullability by numbers: what the program computes node by node.
-use Rattle.std.proofs.Common.{◌≡◌, ℕ, ◌<◌, ◌≤◌, Bool, true, false, cond, ◌&&◌, ◌||◌, ltb, List, length, get_or, sym, refl, ap, ◌∙◌, ap₂, ⊎_elim, arith}
+use Rattle.std.proofs.Common.{◌≡◌, ℕ, ◌<◌, ◌≤◌, false, cond, ltb, List, length, get_or, sym, refl, ap, ◌∙◌, ⊎_elim, arith}
 use Rattle.std.proofs.lemmas.Bool.{lt-ltb, le-ltb, cond-true, cond-false, cases_lt}
 use Rattle.std.proofs.lemmas.List.{get_or_past}
 use Rattle.model.specs.declared.nodes.Node.{Node}
@@ -8,7 +8,7 @@ use Rattle.theory.specs.Language.{Expr}
 use Rattle.theory.specs.Tree.{body_of}
 use Rattle.meaning.specs.Functions.{nullable?, nulls_of, rule_null, grown}
 use Rattle.meaning.proofs.Rules.{grown_at, grown_length}
-use Rattle.expressions.specs.Numbers.{earlier, body_at, tree, built, null_at, null_node}
+use Rattle.expressions.specs.Numbers.{built, null_at, null_node}
 use Rattle.expressions.proofs.Trees.{tree_built, tree_past, body_tree}
 
 -- a mention of a rule below r is followed into its body, any other is not nullable

@@ -1,17 +1,16 @@
 -- Numbers in a book and the expressions that they stand for, while the book is made from a file.
-use Rattle.std.proofs.Common.{◌≡◌, ℕ, zero, suc, ◌+◌, ◌<◌, ◌≤◌, Bool, true, false, cond, List, [], ◌∷◌, ◌++◌, map, length, get_or, take, sym, refl, ap, ◌∙◌, subst, ap₂, ⊎_elim, add-one, arith}
-use Rattle.std.proofs.lemmas.List.{length_push, get_or_append_left, get_or_push, get_or_past, get_or-map, get_or_default, length-map, ext_get_or, map_push, take_more, take_all}
+use Rattle.std.proofs.Common.{◌≡◌, ℕ, ◌+◌, ◌<◌, ◌≤◌, List, [], ◌∷◌, ◌++◌, map, length, get_or, take, sym, ap, ◌∙◌, subst, ap₂, ⊎_elim, add-one, arith}
+use Rattle.std.proofs.lemmas.List.{length_push, get_or_append_left, get_or_push, get_or_past, get_or-map, get_or_default, length-map, ext_get_or, map_push, take_more}
 use Rattle.std.proofs.lemmas.Bool.{cases_lt}
 use Rattle.model.specs.declared.nodes.Node.{Node}
-use Rattle.model.specs.declared.nodes.Node.TheVariants.{Nothing, Empty, Simple, Rule, Element, Union, Seq, Star}
-use Rattle.theory.specs.Language.{Expr, none, empty, simple, rule, element, union, seq, star}
-use Rattle.theory.specs.Count.{enter, each}
-use Rattle.theory.specs.Tree.{body_of, trees, of_node, growing}
+use Rattle.model.specs.declared.nodes.Node.TheVariants.{Nothing}
+use Rattle.theory.specs.Language.{Expr, none, rule}
+use Rattle.theory.specs.Count.{each}
+use Rattle.theory.specs.Tree.{body_of, trees, of_node}
 use Rattle.expressions.specs.Numbers.{tree}
-use Rattle.expressions.specs.Records.{place, same_node}
-use Rattle.expressions.specs.Fine.{PartsBelow, make, Founded, Distinct, Fine, Below, Grows, shown}
+use Rattle.expressions.specs.Fine.{Below, Grows, shown}
 use Rattle.expressions.proofs.Trees.{growing_append}
-use Rattle.expressions.proofs.Fine.{grows_tree, Holds, holds_tree, grows_long}
+use Rattle.expressions.proofs.Fine.{grows_tree}
 
 pub below_none : (n : ℕ) → Below n []
 unfolding Below

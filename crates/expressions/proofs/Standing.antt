@@ -6,12 +6,12 @@ use Rattle.model.specs.declared.nodes.Node.{Node}
 use Rattle.model.specs.Machine.{Derivative, Plain, no_state, nullable_at, derivatives_at}
 use Rattle.theory.specs.Language.{Expr, none, empty, simple, rule, element, union, seq, star}
 use Rattle.theory.specs.Derivative.{Null, null_rule, Der, der_rule}
-use Rattle.theory.specs.Recursion.{Mentions, LawfulRules}
+use Rattle.theory.specs.Recursion.{LawfulRules}
 use Rattle.theory.specs.Count.{each, enter}
 use Rattle.theory.specs.Tree.{body_of}
 use Rattle.theory.specs.Inequality.{Member, here, there}
 use Rattle.theory.specs.Stands.{Stands}
-use Rattle.meaning.specs.Functions.{Derived, nullable?, derivatives?, nulls_of, ders_of, grown, rule_ders}
+use Rattle.meaning.specs.Functions.{Derived, nullable?, derivatives?, nulls_of, ders_of}
 use Rattle.meaning.proofs.Functions.{nullable_sound, nullable_complete, derivatives_sound, derivatives_complete}
 use Rattle.meaning.proofs.Rules.{nulls_sound, nulls_complete, ders_sound, ders_complete}
 use Rattle.meaning.proofs.Members.{member_map, map_member}
@@ -20,11 +20,11 @@ use Rattle.expressions.specs.Records.{place, same_number}
 use Rattle.expressions.specs.Fine.{Fine, Below, Grows, shown}
 use Rattle.expressions.specs.Derived.{part, as_trees, InBook, AllIn, ders_below, ders_at}
 use Rattle.expressions.specs.States.{named, Separate, Extends, Stated, AllStated, total}
-use Rattle.expressions.proofs.Fine.{grows_long, grows_tree, place_is}
-use Rattle.expressions.proofs.Shown.{shown_at, below_at, below_push}
+use Rattle.expressions.proofs.Fine.{place_is}
+use Rattle.expressions.proofs.Shown.{shown_at, below_at}
 use Rattle.expressions.proofs.Inject.{tree_once}
 use Rattle.expressions.proofs.Books.{place_le, enter_old, enter_new}
-use Rattle.expressions.proofs.Ders.{trees_grow, nulls_grow, ders_grow, part_more, part_none}
+use Rattle.expressions.proofs.Ders.{trees_grow, nulls_grow, ders_grow}
 
 -- numbers of states
 

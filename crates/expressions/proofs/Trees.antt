@@ -1,10 +1,10 @@
 -- The expression of a number, from the node that has it and from earlier expressions.
-use Rattle.std.proofs.Common.{◌≡◌, ℕ, zero, suc, ◌+◌, ◌<◌, ◌≤◌, Bool, true, false, cond, ltb, List, [], ◌∷◌, ◌++◌, map, length, get_or, take, sym, refl, ap, ◌∙◌, subst, ap₂, ⊎_elim, append_assoc, append-nil, add-zero, add-suc, arith}
+use Rattle.std.proofs.Common.{◌≡◌, ℕ, zero, suc, ◌+◌, ◌<◌, ◌≤◌, List, [], ◌∷◌, ◌++◌, map, length, get_or, take, sym, refl, ap, ◌∙◌, ap₂, ⊎_elim, append_assoc, append-nil, add-zero, arith}
 use Rattle.std.proofs.lemmas.List.{length_push, get_or-take, get_or_past, get_or_append_left, length-append, take-append-le, take_at, get_or_at, get_or-map, length-map}
 use Rattle.std.proofs.lemmas.Bool.{lt-ltb, le-ltb, cond-true, cond-false, cases_lt}
 use Rattle.model.specs.declared.nodes.Node.{Node}
 use Rattle.model.specs.declared.nodes.Node.TheVariants.{Nothing, Empty, Simple, Rule, Element, Union, Seq, Star}
-use Rattle.theory.specs.Language.{Expr, none, empty, simple, rule, element, union, seq, star}
+use Rattle.theory.specs.Language.{Expr, none, element, union, seq, star}
 use Rattle.theory.specs.Tree.{of_node, growing, trees, body_of}
 use Rattle.expressions.specs.Numbers.{earlier, body_at, tree, built}
 

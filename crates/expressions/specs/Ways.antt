@@ -1,6 +1,6 @@
 -- The test of lawful recursion of a rule: whether an unlawful mention is met from an expression on,
 -- by the way taken to that expression.
-use Rattle.std.specs.Prelude.{ℕ, Bool, true, false, cond, ◌||◌, nat_le, nat_lt}
+use Rattle.std.specs.Prelude.{ℕ, Bool, false, cond, ◌||◌, nat_le, nat_lt}
 use Rattle.theory.specs.Language.{Expr, none, empty, simple, rule, element, union, seq, star}
 
 -- after a way with a left side or a star: every mention of rule k or a later one is unlawful

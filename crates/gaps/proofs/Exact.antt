@@ -1,15 +1,14 @@
 -- A row that is not wide has a gap exactly when a first one is found.
-use Rattle.std.proofs.Common.{◌≡◌, ℕ, zero, suc, ◌^◌, ◌<◌, ◌≤◌, Bool, true, false, cond, ◌&&◌, ◌||◌, ltb, ◌⊎◌, List, length, take, is_some, Some, None, Option, sym, refl, ap, ◌∙◌, subst, ap₂, inl, inr, ⊎_elim, arith}
+use Rattle.std.proofs.Common.{◌≡◌, ℕ, zero, suc, ◌^◌, ◌<◌, Bool, true, false, cond, ◌&&◌, ◌||◌, ltb, List, length, is_some, Some, None, Option, sym, refl, ap, ◌∙◌, subst, ⊎_elim, arith}
 use Rattle.std.proofs.lemmas.List.{take_all}
-use Rattle.std.proofs.lemmas.Bool.{and_cases, ltb-false, both_ways, cases_Bool, cond-true, cond-false, false≢true}
+use Rattle.std.proofs.lemmas.Bool.{and_cases, ltb-false, both_ways, false≢true}
 use Rattle.model.specs.declared.rows.Row.{Row}
-use Rattle.theory.specs.Count.{some, any}
+use Rattle.theory.specs.Count.{some}
 use Rattle.theory.specs.Machine.{Machine}
-use Rattle.theory.specs.Inequality.{Pair, EitherOr, derivative, derivative_count, pairs, wide, either_or, either_ors}
+use Rattle.theory.specs.Inequality.{Pair, derivative, derivative_count, pairs, wide, either_or, either_ors}
 use Rattle.meaning.proofs.Members.{same_test}
 use Rattle.inequality.proofs.Lists.{some_found, some_from, some_none, any_found, any_from}
 use Rattle.inequality.proofs.Sides.{either_or_found, either_or_from}
-use Rattle.gaps.specs.declared.place.Place.{Place}
 use Rattle.gaps.specs.Shows.{unshown, gap}
 use Rattle.gaps.specs.Gaps.{either, first, known, subset_gap, subset_count, derivative_gap, name_gap, first_gap}
 

@@ -1,5 +1,5 @@
 -- The first gap of a row, by its place among the either-ors.
-use Rattle.std.specs.Prelude.{ℕ, zero, suc, ◌^◌, Bool, true, false, cond, List, length, take, Some, None, Option}
+use Rattle.std.specs.Prelude.{ℕ, zero, suc, ◌^◌, Bool, cond, List, length, take, Some, None, Option}
 use Rattle.model.specs.declared.rows.Row.{Row}
 use Rattle.theory.specs.Machine.{Machine}
 use Rattle.theory.specs.Inequality.{Pair, derivative, derivative_count, pairs, either_or}

@@ -1,10 +1,10 @@
 -- Sets as numbers: what is in a set after an insertion, and numbers with chosen bits.
-use Rattle.std.proofs.Common.{◌≡◌, ℕ, zero, suc, ◌+◌, ◌-◌, ◌*◌, ◌/◌, ◌%◌, ◌^◌, ◌<◌, ◌≤◌, Bool, true, false, cond, not, ◌&&◌, ◌||◌, eqb, ltb, ◌⊎◌, sym, refl, ap, ◌∙◌, subst, ap₂, inl, inr, ⊎_elim, mod-lt, pow-suc, arith, pow-add}
+use Rattle.std.proofs.Common.{◌≡◌, ℕ, zero, suc, ◌+◌, ◌-◌, ◌*◌, ◌/◌, ◌%◌, ◌^◌, ◌<◌, ◌≤◌, Bool, true, false, cond, ◌&&◌, ◌||◌, eqb, ltb, ◌⊎◌, sym, refl, ap, ◌∙◌, inl, inr, ⊎_elim, pow-suc, arith, pow-add}
 use native.Mathlib.Nat.{div-eq_of_lt, div_self, mul-mod_left, add-mul-div_right, add-mul-mod_self_right}
 use lib.Bits.{bit_or, or_shr, or_mod}
 use lib.Pow.{high}
 use Rattle.std.proofs.lemmas.Nat.{pow_pos, pow_below, shl-shr, mod_below}
-use Rattle.std.proofs.lemmas.Bool.{cases_Bool, cases_lt, cases_eq, cond-true, cond-false, and_from, and_parts, and_left, and_right, eqb-true, eq-eqb, ne_eqb, lt-ltb, le-ltb, ltb-true, false≢true, or_cases}
+use Rattle.std.proofs.lemmas.Bool.{cases_lt, cases_eq, cond-true, and_parts, and_right, eq-eqb, ne_eqb, lt-ltb, ltb-true}
 use Rattle.model.specs.Sets.{has, insert}
 use Rattle.theory.specs.Inequality.{bit}
 

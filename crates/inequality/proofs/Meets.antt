@@ -1,7 +1,7 @@
 -- The breadth-first meeting against the reachable inequalities.
-use Rattle.std.proofs.Common.{◌≡◌, ℕ, zero, suc, ◌+◌, ◌<◌, ◌≤◌, Bool, true, false, ltb, leb, ◌⊎◌, ◌↔◌, List, [], ◌∷◌, ◌++◌, length, get_or, take, sym, refl, ap, ◌∙◌, subst, inl, inr, ⊎_elim, arith, length-append, length-take-le}
+use Rattle.std.proofs.Common.{◌≡◌, ℕ, zero, suc, ◌+◌, ◌<◌, ◌≤◌, Bool, true, false, ltb, leb, ◌⊎◌, List, [], ◌∷◌, ◌++◌, length, get_or, take, sym, refl, ap, ◌∙◌, subst, inl, inr, ⊎_elim, arith, length-append, length-take-le}
 use lib.ListN.{get_or-append}
-use Rattle.std.proofs.lemmas.Bool.{cases_Bool, cases_eq, leb-true, leb-false, ltb-true, ltb-false, false≢true}
+use Rattle.std.proofs.lemmas.Bool.{cases_eq, leb-true, leb-false, ltb-true, ltb-false, false≢true}
 use Rattle.model.specs.declared.rows.Row.{Row}
 use Rattle.model.specs.Blank.{blank_row}
 use Rattle.theory.specs.Machine.{Machine}
@@ -9,8 +9,8 @@ use Rattle.theory.specs.Inequality.{same_row, wide, EitherOr, either_ors, Member
 use Rattle.theory.specs.Meeting.{sides_of, sides, End, all, wide_row, out_of_rows, Met, widened, meet_on, meet}
 use Rattle.inequality.specs.Lists.{Distinct}
 use Rattle.inequality.specs.Marks.{Sided}
-use Rattle.inequality.specs.Reached.{Listed, Numbered, Outnumber, SomeWide, NoneWide, Begun, MetAll, EndsAll, Stops}
-use Rattle.inequality.proofs.Lists.{member_left, member_at, place_of, member_one, entered_more, entered_old, entered_new, entered_from, entered_distinct, no_longer, member_take, distinct_take}
+use Rattle.inequality.specs.Reached.{Numbered, Outnumber, SomeWide, NoneWide, Begun, MetAll, EndsAll, Stops}
+use Rattle.inequality.proofs.Lists.{member_at, place_of, member_one, entered_more, entered_old, entered_new, entered_from, entered_distinct, no_longer, member_take, distinct_take}
 use Rattle.inequality.proofs.Marking.{tells_row}
 
 -- the sides of either-ors are exactly their content sides and rest sides

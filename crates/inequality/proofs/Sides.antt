@@ -1,15 +1,12 @@
 -- What is on the sides of an either-or, and which either-ors an inequality has.
-use Rattle.std.proofs.Common.{◌≡◌, ℕ, zero, suc, ◌^◌, ◌<◌, ◌≤◌, Bool, true, false, cond, not, ◌&&◌, ◌||◌, eqb, ltb, ◌⊎◌, List, [], ◌∷◌, ◌++◌, length, get_or, sym, refl, ap, ◌∙◌, subst, inl, inr, ⊎_elim, arith}
-use Rattle.std.proofs.lemmas.Bool.{cases_Bool, cases_eq, or_cases, or_left, or_right, and_from, and_parts, eqb-true, eq-eqb, false≢true, not_from_false}
+use Rattle.std.proofs.Common.{◌≡◌, ℕ, zero, suc, ◌^◌, ◌<◌, Bool, true, false, cond, eqb, ◌⊎◌, List, [], length, get_or, sym, refl, ap, ◌∙◌, inl, inr, ⊎_elim, arith}
+use Rattle.std.proofs.lemmas.Bool.{cases_eq, or_cases, or_left, or_right, and_from, and_parts, eqb-true, eq-eqb, false≢true}
 use Rattle.model.specs.declared.rows.Row.{Row}
 use Rattle.model.specs.Sets.{has, insert}
-use Rattle.model.specs.Machine.{Derivative, derivatives_at}
 use Rattle.theory.specs.Machine.{Machine}
-use Rattle.theory.specs.Count.{each, entered}
-use Rattle.theory.specs.Inequality.{Pair, same_pair, bit, contents, rests, derivative, derivative_count, pairs_of, all_pairs, pairs, either_or, of_derivative, of_name, either_ors, EitherOr, Member, here, there, row}
-use Rattle.inequality.specs.Fits.{Fits}
+use Rattle.theory.specs.Inequality.{Pair, same_pair, bit, contents, rests, derivative, derivative_count, pairs_of, all_pairs, pairs, either_or, of_derivative, of_name, either_ors, EitherOr, Member, here}
 use Rattle.inequality.proofs.Bits.{has_insert, has_none}
-use Rattle.inequality.proofs.Lists.{Tells, member_each, each_member, member_when, when_member, member_one, member_at, entered_from, entered_new}
+use Rattle.inequality.proofs.Lists.{Tells, member_each, each_member, member_when, when_member, member_one, entered_from, entered_new}
 
 -- the content of the pair number i
 abbrev pub content_of : List Pair → ℕ → ℕ

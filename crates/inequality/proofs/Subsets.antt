@@ -1,15 +1,15 @@
 -- The subset rule: a witness against an inequality splits over one of its either-ors, and witnesses
 -- against both sides of an either-or join to one.
-use Rattle.std.proofs.Common.{◌≡◌, ℕ, zero, suc, ◌^◌, ◌<◌, ◌≤◌, Bool, true, false, cond, not, ◌&&◌, ◌||◌, ◌⊎◌, List, [], ◌∷◌, length, get_or, sym, refl, ap, ◌∙◌, subst, inl, inr, ⊎_elim, arith}
-use Rattle.std.proofs.lemmas.Bool.{cases_Bool, cases_lt, and_from, and_parts, and_cases, false≢true, not-true, not-false, not_from_false}
+use Rattle.std.proofs.Common.{◌≡◌, ℕ, ◌^◌, ◌<◌, ◌≤◌, Bool, true, false, not, ◌&&◌, List, length, sym, ap, ◌∙◌, subst, ⊎_elim, arith}
+use Rattle.std.proofs.lemmas.Bool.{cases_Bool, cases_lt, and_from, and_parts, false≢true, not-true, not-false, not_from_false}
 use Rattle.std.proofs.lemmas.List.{get_or_past}
 use Rattle.model.specs.declared.rows.Row.{Row}
 use Rattle.model.specs.Sets.{has}
 use Rattle.model.specs.Machine.{Derivative, Plain, no_state, nullable_at, derivatives_at}
 use Rattle.theory.specs.Hedge.{Hedge, nothing, item}
 use Rattle.theory.specs.Machine.{Machine, accepts}
-use Rattle.theory.specs.Count.{any, some}
-use Rattle.theory.specs.Inequality.{Pair, bit, contents, rests, derivative, derivative_count, no_derivative, pairs, either_or, either_ors, EitherOr, Member, here, there, inconsistent, some_nullable}
+use Rattle.theory.specs.Count.{any}
+use Rattle.theory.specs.Inequality.{Pair, bit, contents, rests, derivative, derivative_count, no_derivative, pairs, either_or, either_ors, EitherOr, Member, inconsistent, some_nullable}
 use Rattle.inequality.specs.Fits.{Fits, Named, Witness, Without, SubsetRule}
 use Rattle.inequality.proofs.Bits.{mask, mask_below, bit_mask}
 use Rattle.inequality.proofs.Lists.{any_found, any_from, place_of, member_at, some_none, none_some}

@@ -1,12 +1,12 @@
 -- Closed tables hold; refuted inequalities are those with a witness.
-use Rattle.std.proofs.Common.{◌≡◌, ℕ, ◌<◌, Bool, true, false, ◌&&◌, ◌⊎◌, length, sym, refl, ap, ◌∙◌, subst, inl, inr, ⊎_elim}
+use Rattle.std.proofs.Common.{◌≡◌, ℕ, Bool, true, false, ◌&&◌, length, sym, refl, ◌∙◌, ⊎_elim}
 use Rattle.std.proofs.lemmas.Bool.{and_parts, and_from, false≢true}
 use Rattle.model.specs.declared.rows.Row.{Row}
 use Rattle.model.specs.Sets.{has}
 use Rattle.theory.specs.Hedge.{Hedge, nothing, item}
 use Rattle.theory.specs.Machine.{Machine, accepts}
 use Rattle.theory.specs.Count.{some}
-use Rattle.theory.specs.Inequality.{Holds, Refuted, by_empty, by_either_or, inconsistent, EitherOr, either_ors, Member}
+use Rattle.theory.specs.Inequality.{Holds, Refuted, by_empty, by_either_or}
 use Rattle.inequality.specs.Fits.{Fits, Named, Witness}
 use Rattle.inequality.specs.Tables.{Closed, ClosedTrue, RefutedWitness, WitnessRefuted, RefutedFails, UnrefutedHolds}
 use Rattle.inequality.proofs.Lists.{some_found, some_none}

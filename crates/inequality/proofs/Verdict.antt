@@ -1,14 +1,13 @@
 -- With all reachable inequalities met, the verdict on the root is true and its table shows it.
 use Rattle.std.proofs.Common.{◌≡◌, ℕ, zero, suc, ◌<◌, ◌≤◌, Bool, true, false, cond, ◌⊎◌, ◌↔◌, List, [], ◌∷◌, length, get_or, sym, refl, ap, ◌∙◌, subst, inl, inr, ⊎_elim, arith, ext_get_or}
-use Rattle.std.proofs.lemmas.Bool.{cases_Bool, and_parts, false≢true}
+use Rattle.std.proofs.lemmas.Bool.{cases_Bool, false≢true}
 use Rattle.model.specs.declared.rows.Row.{Row}
 use Rattle.model.specs.Blank.{blank_row}
 use Rattle.theory.specs.Machine.{Machine}
-use Rattle.theory.specs.Hedge.{Hedge}
-use Rattle.theory.specs.Inequality.{same_row, wide, inconsistent, Holds, Refuted, by_empty, by_either_or, EitherOr, either_ors, Member, here, there}
+use Rattle.theory.specs.Inequality.{same_row, Holds, Refuted, by_empty, by_either_or, Member, here, there}
 use Rattle.theory.specs.Meeting.{meet, all}
 use Rattle.inequality.specs.Lists.{Distinct}
-use Rattle.inequality.specs.Fits.{Fits, Named, Witness}
+use Rattle.inequality.specs.Fits.{Fits, Named}
 use Rattle.inequality.specs.Tables.{Closed}
 use Rattle.inequality.specs.Marks.{Sided, marks, Right}
 use Rattle.inequality.specs.Reached.{MetAll}

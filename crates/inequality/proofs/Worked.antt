@@ -1,12 +1,11 @@
 -- A small machine worked through: one name, the state 0 of one item, the state 1 of the empty hedge
 -- and the state 2 of any number of items. Each item is empty inside.
-use Rattle.std.proofs.Common.{◌≡◌, ℕ, zero, suc, ◌<◌, Bool, true, false, ◌&&◌, eqb, List, [], ◌∷◌, refl, arith}
+use Rattle.std.proofs.Common.{◌≡◌, ℕ, zero, suc, ◌<◌, true, false, ◌&&◌, eqb, [], ◌∷◌, refl, arith}
 use Rattle.std.proofs.lemmas.Bool.{and_parts, eqb-true}
 use Rattle.theory.specs.Hedge.{Hedge}
-use Rattle.model.specs.declared.rows.Row.{Row}
 use Rattle.theory.specs.Machine.{Machine}
 use Rattle.theory.specs.Inequality.{row, Holds, derivative, derivative_count, some_nullable, inconsistent, pairs_of, all_pairs, pairs, wide, either_or, of_derivative, of_name, either_ors}
-use Rattle.theory.specs.Meeting.{Met, End, all, out_of_rows, meet, widened, sides}
+use Rattle.theory.specs.Meeting.{Met, all, out_of_rows, meet, widened, sides}
 use Rattle.inequality.specs.Fits.{Fits, Named, Witness}
 use Rattle.inequality.specs.Marks.{marks}
 use Rattle.inequality.specs.Verdicts.{excluded, table}

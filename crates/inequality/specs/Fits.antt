@@ -1,5 +1,5 @@
 -- Machines whose tables fit, and witnesses against an inequality.
-use Rattle.std.specs.Prelude.{◌≡◌, ℕ, ◌<◌, ◌≤◌, Bool, true, false, not, length, slice_index_or}
+use Rattle.std.specs.Prelude.{◌≡◌, ℕ, ◌<◌, ◌≤◌, true, false, not, length, slice_index_or}
 use Rattle.model.specs.declared.rows.Row.{Row}
 use Rattle.model.specs.Sets.{has}
 use Rattle.theory.specs.Hedge.{Hedge, item}

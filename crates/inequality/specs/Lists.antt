@@ -1,5 +1,5 @@
 -- Lists without repeats, by a test that tells whether two elements are the same.
-use Rattle.std.specs.Prelude.{◌≡◌, ℕ, suc, ◌<◌, Bool, true, false, ◌||◌, List, [], ◌∷◌}
+use Rattle.std.specs.Prelude.{◌≡◌, Bool, false, List, [], ◌∷◌}
 use Rattle.theory.specs.Count.{any}
 
 -- no element of the list is the same as a later one

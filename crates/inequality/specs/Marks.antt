@@ -1,5 +1,5 @@
 -- Marking the refuted rows of a list that is closed under sides.
-use Rattle.std.specs.Prelude.{◌≡◌, ℕ, zero, suc, ◌<◌, Bool, true, false, cond, ◌&&◌, ◌||◌, List, [], ◌∷◌, map, length, slice_index_or}
+use Rattle.std.specs.Prelude.{◌≡◌, ℕ, zero, suc, ◌<◌, Bool, true, false, ◌&&◌, ◌||◌, List, [], ◌∷◌, map, length, slice_index_or}
 use Rattle.model.specs.declared.rows.Row.{Row}
 use Rattle.model.specs.Blank.{blank_row}
 use Rattle.theory.specs.Count.{any}

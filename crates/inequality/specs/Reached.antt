@@ -1,9 +1,9 @@
 -- How many inequalities are reachable from a root, and what a meeting of them says.
-use Rattle.std.specs.Prelude.{◌≡◌, ℕ, ◌+◌, ◌≤◌, Bool, true, false, ◌⊎◌, ◌↔◌, List, ◌∷◌, length}
+use Rattle.std.specs.Prelude.{◌≡◌, ℕ, ◌+◌, ◌≤◌, true, false, ◌⊎◌, ◌↔◌, List, ◌∷◌, length}
 use Rattle.model.specs.declared.rows.Row.{Row}
 use Rattle.theory.specs.Machine.{Machine}
 use Rattle.theory.specs.Inequality.{same_row, wide, Reachable, Member}
-use Rattle.theory.specs.Meeting.{Met, meet, all, wide_row, out_of_rows}
+use Rattle.theory.specs.Meeting.{meet, all, wide_row, out_of_rows}
 use Rattle.inequality.specs.Lists.{Distinct}
 use Rattle.inequality.specs.Marks.{Sided}
 

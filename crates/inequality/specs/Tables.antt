@@ -1,10 +1,10 @@
 -- Closed tables of inequalities, and what refutation means.
-use Rattle.std.specs.Prelude.{◌≡◌, ℕ, Bool, true, false, ◌⊎◌}
+use Rattle.std.specs.Prelude.{◌≡◌, false, ◌⊎◌}
 use Rattle.model.specs.declared.rows.Row.{Row}
 use Rattle.theory.specs.Hedge.{Hedge}
 use Rattle.theory.specs.Machine.{Machine}
 use Rattle.theory.specs.Inequality.{Holds, Refuted, inconsistent, EitherOr, either_ors, Member}
-use Rattle.inequality.specs.Fits.{Fits, Named, Witness}
+use Rattle.inequality.specs.Fits.{Witness}
 
 -- A closed table, over any set of rows and any set of known ones: no row of it is inconsistent, and
 -- each either-or of each of its rows has a side that is a row of it or is known.

@@ -1,5 +1,5 @@
 -- The verdict on a root whose reachable inequalities were all met, and the table that shows it.
-use Rattle.std.specs.Prelude.{◌≡◌, ℕ, Bool, true, false, cond, ◌⊎◌, List, [], ◌∷◌, slice_index_or}
+use Rattle.std.specs.Prelude.{◌≡◌, Bool, true, false, cond, ◌⊎◌, List, [], ◌∷◌, slice_index_or}
 use Rattle.model.specs.declared.rows.Row.{Row}
 use Rattle.theory.specs.Hedge.{Hedge}
 use Rattle.theory.specs.Machine.{Machine}

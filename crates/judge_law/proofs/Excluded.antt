@@ -1,11 +1,9 @@
 -- An accepted excluded sheet spells a witness, and items that spell a witness are accepted.
-use Rattle.std.proofs.Common.{◌≡◌, ℕ, ◌<◌, ◌≤◌, Bool, true, false, cond, not, ◌&&◌, ◌||◌, eqb, List, length, Some, None, Option, sym, refl, ap, ◌∙◌, subst}
-use Rattle.std.proofs.lemmas.Bool.{and_parts, and_from, cond-true, not-true, not_from_false, eqb-true, eq-eqb, or_right}
+use Rattle.std.proofs.Common.{◌≡◌, ℕ, ◌<◌, Bool, true, false, cond, not, ◌||◌, eqb, Some, None, sym, refl, ap, ◌∙◌}
+use Rattle.std.proofs.lemmas.Bool.{and_parts, and_from, cond-true, not-true, not_from_false, eqb-true, eq-eqb}
 use Rattle.model.specs.Sets.{has, insert}
-use Rattle.theory.specs.Machine.{Machine, accepts}
+use Rattle.theory.specs.Machine.{accepts}
 use Rattle.theory.specs.Items.{spelled}
-use Rattle.theory.specs.Inequality.{row}
-use Rattle.inequality.specs.Fits.{Witness}
 use Rattle.inequality.proofs.Bits.{has_insert, has_none}
 use Rattle.meaning.specs.Tables.{has_spelled}
 use Rattle.meaning.proofs.Tables.{membership_law}

@@ -1,17 +1,15 @@
 -- An accepted included sheet is a closed table, and a closed table that leans on nothing is accepted.
-use Rattle.std.proofs.Common.{◌≡◌, ℕ, ◌+◌, Bool, true, false, cond, not, ◌&&◌, ◌||◌, eqb, ltb, ◌⊎◌, List, [], ◌∷◌, Some, None, Option, sym, refl, ap, ◌∙◌, subst, inl, inr, ⊎_elim}
-use Rattle.std.proofs.lemmas.Bool.{and_parts, and_cases, and_left, and_right, or_cases, or_left, cond-true, cond-false, not-false, not_from_true, eqb-true, false≢true, cases_Bool}
+use Rattle.std.proofs.Common.{◌≡◌, ℕ, ◌+◌, Bool, true, false, cond, not, eqb, ltb, ◌⊎◌, List, [], ◌∷◌, Some, None, Option, sym, refl, ap, ◌∙◌, subst, inl, inr, ⊎_elim}
+use Rattle.std.proofs.lemmas.Bool.{and_parts, and_cases, and_left, and_right, or_cases, or_left, cond-true, cond-false, not-false, not_from_true, eqb-true, false≢true}
 use Rattle.model.specs.declared.rows.Row.{Row}
 use Rattle.model.specs.Sets.{insert}
 use Rattle.ledger.specs.declared.table.Settled.{Settled}
 use Rattle.ledger.specs.declared.table.Settled.TheVariants.{Unsettled, Included, Excluded}
-use Rattle.theory.specs.Count.{any, some}
+use Rattle.theory.specs.Count.{any}
 use Rattle.theory.specs.Machine.{Machine}
 use Rattle.theory.specs.Inequality.{row, same_row, Holds, inconsistent, wide, EitherOr, either_ors, Member, here, there}
-use Rattle.inequality.specs.Fits.{Fits, Named}
 use Rattle.inequality.specs.Tables.{Closed}
-use Rattle.inequality.specs.Verdicts.{Shows}
-use Rattle.inequality.proofs.Lists.{any_found, any_from, any_none, none_any, some_found, member_cases}
+use Rattle.inequality.proofs.Lists.{any_found, any_from, any_none, none_any, some_found}
 use Rattle.inequality.proofs.Marking.{tells_row}
 use Rattle.inequality.proofs.Truth.{closed_true}
 use Rattle.judge.specs.declared.fault.SheetFault.{SheetFault}

@@ -1,7 +1,7 @@
 -- The sheet of a verdict is accepted by everybody.
-use Rattle.std.proofs.Common.{◌≡◌, ℕ, zero, suc, ◌+◌, ◌-◌, ◌<◌, ◌≤◌, Bool, true, false, cond, not, ◌&&◌, ◌||◌, eqb, ltb, leb, ◌⊎◌, List, [], ◌∷◌, ◌++◌, length, get_or, take, replicate, Some, None, Ok, Err, Option, Result, sym, refl, ap, ◌∙◌, subst, inl, inr, ⊎_elim, arith}
-use Rattle.std.proofs.lemmas.List.{take_at, length-append, length-replicate, take_all}
-use Rattle.std.proofs.lemmas.Bool.{cond-true, lt-ltb, le-leb, eq-eqb, and_from, false≢true, ltb-false, cases_Bool, or_cases}
+use Rattle.std.proofs.Common.{◌≡◌, ℕ, suc, ◌+◌, ◌-◌, ◌<◌, ◌≤◌, Bool, true, false, cond, not, ◌&&◌, ◌||◌, eqb, ltb, leb, List, [], ◌∷◌, ◌++◌, length, get_or, take, replicate, None, Ok, Err, Result, sym, refl, ap, ◌∙◌, subst, arith}
+use Rattle.std.proofs.lemmas.List.{take_at, length-append, length-replicate}
+use Rattle.std.proofs.lemmas.Bool.{cond-true, lt-ltb, le-leb, eq-eqb, and_from, false≢true, ltb-false}
 use Rattle.model.specs.declared.names.Name.{Name}
 use Rattle.model.specs.declared.rows.Row.{Row}
 use Rattle.model.specs.declared.rows.Item.{Item}
@@ -9,7 +9,6 @@ use Rattle.model.specs.Blank.{blank_row, blank_item}
 use Rattle.theory.specs.Machine.{Machine}
 use Rattle.theory.specs.Inequality.{Member, here, there}
 use Rattle.theory.specs.Meeting.{meet, all}
-use Rattle.text.specs.declared.fault.LineFault.{LineFault}
 use Rattle.text.specs.Pieces.{whole_text, last_byte}
 use Rattle.ledger.specs.declared.table.Settled.{Settled}
 use Rattle.records.specs.declared.fault.CallFault.{CallFault}
@@ -18,21 +17,20 @@ use Rattle.records.specs.declared.sheet.Verdict.{Verdict}
 use Rattle.records.specs.declared.sheet.Verdict.TheVariants.{Included, Excluded}
 use Rattle.records.specs.Chains.{then, of_line}
 use Rattle.records.specs.Places.{item_fits}
-use Rattle.records.specs.Reading.{Found, sheet_read, sheet_of, counted, limit as most_bytes}
+use Rattle.records.specs.Reading.{Found, sheet_read, counted, limit as most_bytes}
 use Rattle.records.specs.declared.sheet.Stage.TheVariants.{Ended}
 use Rattle.records.specs.declared.fault.CallFault.TheVariants.{Output}
 use Rattle.text.specs.declared.fault.LineFault.TheVariants.{Form}
 use Rattle.records.proofs.Chained.{then_ok}
 use Rattle.records_law.specs.Laws.{Sizes, as_read}
 use Rattle.records_law.proofs.Readback.{reads_back}
-use Rattle.judge.specs.declared.fault.SheetFault.{SheetFault}
-use Rattle.judge.specs.Judgement.{included_fault, refusal}
+use Rattle.judge.specs.Judgement.{refusal}
 use Rattle.judge_law.proofs.Included.{included_exchange}
 use Rattle.judge_law.proofs.Excluded.{excluded_witness}
 use Rattle.writing.specs.Texts.{sheet_text, records_text, all_texts, row_text, item_text, verdict_line, pair_text, end_text}
-use Rattle.writing.specs.Checks.{row_fits, places_checked, records_checked, pair_checked, sheet_checked, sheet_written}
+use Rattle.writing.specs.Checks.{row_fits, places_checked, records_checked, pair_checked, sheet_checked}
 use Rattle.search.specs.Answered.{root_of, Shown, Refused, Answered}
-use Rattle.inequality.specs.Verdicts.{table, unmarked, Shows}
+use Rattle.inequality.specs.Verdicts.{table, unmarked}
 use Rattle.inequality.specs.Marks.{Sided}
 use Rattle.inequality.specs.Reached.{Begun}
 use Rattle.inequality.proofs.Marking.{marks_right}

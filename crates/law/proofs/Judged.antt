@@ -1,5 +1,5 @@
 -- What an accepted sheet says is true.
-use Rattle.std.proofs.Common.{◌≡◌, ℕ, ◌<◌, true, false, List, length, Some, None, Ok, Err, Option, Result, sym, refl, ap, ◌∙◌, subst}
+use Rattle.std.proofs.Common.{◌≡◌, ℕ, ◌<◌, None, sym, ◌∙◌}
 use Rattle.theory.specs.Machine.{Machine}
 use Rattle.theory.specs.Items.{spelled}
 use Rattle.ledger.specs.declared.table.Settled.{Settled}
@@ -10,7 +10,7 @@ use Rattle.judge_law.proofs.Included.{included_true}
 use Rattle.judge_law.proofs.Excluded.{excluded_true}
 use Rattle.tables.specs.Plain.{Plain}
 use Rattle.load.specs.Loaded.{bodies_of, rules_of}
-use Rattle.law.specs.Claims.{AllTrue, Includes, Offends}
+use Rattle.law.specs.Claims.{AllTrue}
 use Rattle.law.specs.Grounded.{Grounded}
 use Rattle.law.specs.Sheets.{kind_fault, KindTrue}
 use Rattle.law.proofs.Machines.{fits, named, states_few, has_of, of_has, holds_includes, settled_true}

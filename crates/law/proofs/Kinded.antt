@@ -1,7 +1,7 @@
 -- The expressions of a loaded grammar have names of their kinds, and so have those of its states that are
 -- reached from a rule.
-use Rattle.std.proofs.Common.{◌≡◌, ℕ, zero, suc, ◌+◌, ◌<◌, ◌≤◌, Bool, true, false, ◌&&◌, ltb, ◌⊎◌, List, [], ◌∷◌, ◌++◌, map, length, get_or, sym, refl, ap, ◌∙◌, subst, inl, inr, ⊎_elim, arith}
-use Rattle.std.proofs.lemmas.List.{get_or_past, get_or_append_left, get_or_at, length-append, get_or-map, length-map}
+use Rattle.std.proofs.Common.{◌≡◌, ℕ, zero, suc, ◌+◌, ◌<◌, ◌≤◌, true, ltb, List, [], ◌∷◌, ◌++◌, map, length, get_or, sym, refl, subst, ⊎_elim, arith}
+use Rattle.std.proofs.lemmas.List.{get_or_past, get_or_append_left, get_or_at, length-append}
 use Rattle.std.proofs.lemmas.Bool.{cases_lt, cases_eq, and_parts, false≢true}
 use Rattle.model.specs.declared.names.Kind.{Kind}
 use Rattle.model.specs.declared.names.Kind.TheVariants as kind
@@ -10,12 +10,11 @@ use Rattle.model.specs.declared.nodes.Node.{Node}
 use Rattle.model.specs.declared.nodes.Node.TheVariants.{Nothing, Empty, Simple, Rule, Element, Union, Seq, Star}
 use Rattle.model.specs.declared.rows.Row.{Row}
 use Rattle.model.specs.Machine.{Plain as State, derivatives_at}
-use Rattle.model.specs.Relation.{kind_of}
 use Rattle.theory.specs.Language.{Expr, none, empty, simple, rule, element, union, seq, star}
 use Rattle.theory.specs.Derivative.{join, Der, der_simple, der_element, der_rule, der_left, der_right, der_first, der_second, der_star}
-use Rattle.theory.specs.Tree.{of_node, growing, trees, body_of}
+use Rattle.theory.specs.Tree.{of_node, growing, trees}
 use Rattle.theory.specs.Machine.{Machine}
-use Rattle.theory.specs.Inequality.{derivative, derivative_count, no_derivative, EitherOr, either_or, either_ors, Member, Reachable, at_root, by_content, by_rest}
+use Rattle.theory.specs.Inequality.{derivative, derivative_count, no_derivative, EitherOr, either_or, Reachable, at_root, by_content, by_rest}
 use Rattle.meaning.specs.Names.{Kinded}
 use Rattle.meaning.proofs.Members.{member_at}
 use Rattle.inequality.proofs.Sides.{either_or_found}
@@ -23,7 +22,6 @@ use Rattle.search.specs.Answered.{root_of}
 use Rattle.tables.specs.Checks.{same_kind, kind_at, may_stand, is_kind}
 use Rattle.tables.specs.Plain.{Plain}
 use Rattle.load.specs.Loaded.{Loaded, bodies_of, rules_of}
-use Rattle.law.specs.Grounded.{Grounded}
 
 kinds : (k l : Kind) → same_kind k l ≡ true → k ≡ l
 kinds kind.Simple kind.Simple e = refl

@@ -1,15 +1,14 @@
 -- What the machine of a loaded grammar keeps, and its states against the languages of rules.
-use Rattle.std.proofs.Common.{◌≡◌, ℕ, ◌<◌, ◌≤◌, Bool, true, false, ◌||◌, eqb, ◌⊎◌, List, length, get_or, sym, refl, ap, ◌∙◌, subst, inl, inr, ⊎_elim, arith}
+use Rattle.std.proofs.Common.{◌≡◌, ℕ, ◌<◌, ◌≤◌, true, ◌||◌, eqb, ◌⊎◌, length, sym, refl, ap, ◌∙◌, subst, inl, inr, arith}
 use native.Mathlib.Bridge.{le_prop}
-use mathlib.Core.HLevel.{⊥_prop, Π_prop, →_prop, ×_prop}
+use mathlib.Core.HLevel.{Π_prop, →_prop, ×_prop}
 use mathlib.Core.Bool.{Bool-set}
-use mathlib.Core.Logic.{∥∥₁_elim, ∥∥₁_map, ∥∥₁_prop}
+use mathlib.Core.Logic.{∥∥₁_elim, ∥∥₁_map}
 use Rattle.std.proofs.lemmas.List.{get_or_past}
 use Rattle.std.proofs.lemmas.Bool.{cases_lt, eqb-true, eq-eqb, false≢true}
 use Rattle.model.specs.Machine.{no_state, derivatives_at}
 use Rattle.model.specs.Sets.{has, insert}
 use Rattle.theory.specs.Hedge.{Hedge}
-use Rattle.theory.specs.Language.{In, rule}
 use Rattle.theory.specs.Machine.{Machine, accepts}
 use Rattle.theory.specs.Inequality.{row, Holds, derivative, derivative_count, no_derivative}
 use Rattle.meaning.proofs.Members.{member_at}
@@ -17,11 +16,10 @@ use Rattle.meaning.proofs.Sets.{has_insert, has_none}
 use Rattle.meaning.proofs.Simulation.{rule_simulation}
 use Rattle.inequality.specs.Fits.{Fits, Named, Witness}
 use Rattle.ledger.specs.declared.table.Settled.{Settled}
-use Rattle.ledger.specs.declared.table.Settled.TheVariants.{Unsettled, Included, Excluded}
 use Rattle.tables.specs.Plain.{Plain}
-use Rattle.load.specs.Loaded.{Loaded, bodies_of, rules_of}
+use Rattle.load.specs.Loaded.{bodies_of, rules_of}
 use Rattle.judge_law.specs.Laws.{SettledTrue}
-use Rattle.law.specs.Claims.{Has, Includes, Offends, Lacks, Truly, AllTrue}
+use Rattle.law.specs.Claims.{Has, Includes, Offends, Truly, AllTrue}
 use Rattle.law.specs.Grounded.{Grounded}
 
 -- the machine fits its tables

@@ -1,5 +1,5 @@
 -- The answer to a question is true, and its counts are exact.
-use Rattle.std.proofs.Common.{◌≡◌, ℕ, ◌-◌, ◌<◌, ◌≤◌, Bool, true, false, ◌⊎◌, ◌↔◌, List, ◌∷◌, ◌++◌, length, take, replicate, sym, refl, ap, ◌∙◌, subst, inl, inr, ⊎_elim, arith}
+use Rattle.std.proofs.Common.{◌≡◌, ℕ, ◌-◌, ◌<◌, ◌≤◌, true, false, ◌⊎◌, ◌↔◌, List, take, replicate, sym, refl, ap, ◌∙◌, subst, inl, inr, arith}
 use Rattle.std.proofs.lemmas.Bool.{false≢true}
 use Rattle.std.proofs.lemmas.List.{take_at}
 use Rattle.model.specs.declared.rows.Row.{Row}
@@ -7,22 +7,20 @@ use Rattle.model.specs.declared.rows.Item.{Item}
 use Rattle.model.specs.Blank.{blank_row}
 use Rattle.theory.specs.Machine.{Machine}
 use Rattle.theory.specs.Inequality.{Refuted}
-use Rattle.theory.specs.Meeting.{meet, all, wide_row, out_of_rows, End}
+use Rattle.theory.specs.Meeting.{meet, all}
 use Rattle.inequality.specs.Reached.{Numbered, Outnumber, SomeWide}
 use Rattle.inequality.specs.Verdicts.{Shows, excluded, table}
-use Rattle.inequality.specs.Fits.{Witness}
 use Rattle.inequality.proofs.Truth.{unrefuted_holds}
 use Rattle.inequality.proofs.Meets.{meet_begun, meet_all, meet_number, numbered_most, meet_wide, meet_out}
 use Rattle.inequality.proofs.Marking.{marks_right}
 use Rattle.inequality.proofs.Verdict.{unmarked_shows, excluded_refuted}
 use Rattle.search.specs.declared.answer.Answer.{Answer}
 use Rattle.search.specs.declared.answer.Answer.TheVariants.{Included, Excluded, Wide, OutOfRows}
-use Rattle.search.specs.Answered.{root_of, Answered, Shown, Refused}
+use Rattle.search.specs.Answered.{root_of, Answered, Shown}
 use Rattle.tables.specs.Plain.{Plain}
-use Rattle.load.specs.Loaded.{bodies_of, rules_of}
-use Rattle.law.specs.Claims.{Includes, Offends}
+use Rattle.load.specs.Loaded.{rules_of}
 use Rattle.law.specs.Grounded.{Grounded}
-use Rattle.law.specs.Question.{VerdictTrue, verdictless, CountTrue, Exactly}
+use Rattle.law.specs.Question.{VerdictTrue, Exactly}
 use Rattle.law.proofs.Machines.{fits, named, holds_includes, witness_offends}
 
 -- all rows were met, and the root is not refuted

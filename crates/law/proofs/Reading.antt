@@ -1,9 +1,8 @@
 -- What a sheet or a hedge that was read is known to be.
-use Rattle.std.proofs.Common.{◌≡◌, ℕ, ◌+◌, ◌-◌, ◌<◌, ◌≤◌, Bool, true, ◌&&◌, eqb, leb, List, [], length, take, replicate, Ok, sym, refl, ap, ◌∙◌, subst, arith}
+use Rattle.std.proofs.Common.{◌≡◌, ℕ, ◌+◌, ◌-◌, ◌<◌, ◌≤◌, ◌&&◌, eqb, leb, List, [], length, take, replicate, Ok, sym, refl, ap, subst, arith}
 use Rattle.std.proofs.lemmas.List.{take_at}
 use Rattle.std.proofs.lemmas.Bool.{and_parts, leb-true, eqb-true}
 use Rattle.model.specs.declared.names.Name.{Name}
-use Rattle.model.specs.Blank.{blank_row, blank_item}
 use Rattle.text.specs.Pieces.{lines}
 use Rattle.records.specs.declared.sheet.Limits.{Limits}
 use Rattle.records.specs.declared.sheet.Verdict.{Verdict}

@@ -1,18 +1,17 @@
 -- The table of a lawful relation over the names of a loaded grammar.
-use Rattle.std.proofs.Common.{◌≡◌, ℕ, ◌+◌, ◌<◌, ◌≤◌, Bool, true, false, ◌⊎◌, List, [], map, length, get_or, sym, refl, ap, ◌∙◌, subst, inl, inr, ⊎_elim, arith}
+use Rattle.std.proofs.Common.{◌≡◌, ℕ, ◌<◌, ◌≤◌, Bool, true, false, ◌⊎◌, List, [], map, length, get_or, sym, ap, ◌∙◌, subst, inl, inr, ⊎_elim, arith}
 use mathlib.Core.Path.{fun_ext}
 use mathlib.Core.Bool.{Bool-set}
 use mathlib.Core.Logic.{∥∥₁_elim, ∥∥₁_map}
 use Rattle.std.specs.List.{range_with_len}
 use Rattle.std.proofs.lemmas.List.FromFn.{length-map-range_with_len, get_or-map-range_with_len}
 use Rattle.std.proofs.lemmas.List.{get_or_past}
-use Rattle.std.proofs.lemmas.Bool.{cases_lt, cases_Bool, false≢true}
-use Rattle.model.specs.declared.names.Name.{Name}
+use Rattle.std.proofs.lemmas.Bool.{cases_lt, cases_Bool}
 use Rattle.model.specs.declared.machine.Machine.{Machine as States}
 use Rattle.model.specs.Machine.{states_of, Plain as State}
 use Rattle.model.specs.Relation.{Headed, Lawful}
 use Rattle.sides.specs.declared.covers.Covers.{Covers}
-use Rattle.sides.specs.View.{table_of, names_of, covers_of, view}
+use Rattle.sides.specs.View.{table_of, covers_of, view}
 use Rattle.tables.specs.Plain.{Plain}
 use Rattle.load.specs.Loaded.{Loaded}
 use Rattle.law.specs.Grounded.{Grounded, under}

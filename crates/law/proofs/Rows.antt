@@ -1,5 +1,5 @@
 -- Reachable inequalities are over the states of the machine.
-use Rattle.std.proofs.Common.{◌≡◌, ℕ, zero, suc, ◌/◌, ◌^◌, ◌<◌, ◌≤◌, min, Bool, true, false, cond, ◌&&◌, eqb, ltb, ◌⊎◌, List, length, get_or, sym, refl, ap, ◌∙◌, subst, inl, inr, ⊎_elim, arith, pow_pos}
+use Rattle.std.proofs.Common.{◌≡◌, ℕ, zero, suc, ◌/◌, ◌^◌, ◌<◌, ◌≤◌, min, Bool, true, false, cond, ltb, List, length, get_or, sym, ap, ◌∙◌, subst, ⊎_elim, arith, pow_pos}
 use native.Mathlib.Nat.{div-eq_of_lt}
 use lib.Bits.{bit_or, or_lt}
 use lib.Pow.{pow-lt}
@@ -7,7 +7,7 @@ use Rattle.std.proofs.lemmas.Bool.{cases_lt, cond-true, cond-false, lt-ltb, le-l
 use Rattle.model.specs.declared.rows.Row.{Row}
 use Rattle.model.specs.Sets.{insert}
 use Rattle.theory.specs.Machine.{Machine}
-use Rattle.theory.specs.Inequality.{row, Pair, bit, contents, rests, pairs, derivative, derivative_count, EitherOr, either_or, either_ors, Member, Reachable, at_root, by_content, by_rest}
+use Rattle.theory.specs.Inequality.{row, Pair, bit, contents, rests, pairs, EitherOr, either_or, either_ors, Member, Reachable, at_root, by_content, by_rest}
 use Rattle.meaning.proofs.Members.{member_at}
 use Rattle.inequality.specs.Fits.{Fits}
 use Rattle.inequality.proofs.Sides.{pair_found, either_or_found}

@@ -1,10 +1,8 @@
 -- What is entered keeps all that is settled true.
-use Rattle.std.proofs.Common.{◌≡◌, ℕ, ◌<◌, ◌≤◌, Bool, true, false, cond, ◌&&◌, eqb, ltb, ◌⊎◌, List, length, take, sym, refl, ap, ◌∙◌, subst, inl, inr, ⊎_elim}
+use Rattle.std.proofs.Common.{◌≡◌, ℕ, ◌<◌, Bool, true, false, cond, ◌&&◌, eqb, ltb, sym, subst, ⊎_elim}
 use mathlib.Core.HLevel.{Π_prop, →_prop}
-use mathlib.Core.Logic.{∥∥₁_elim, ∥∥₁_map, ∥∥₁_prop}
+use mathlib.Core.Logic.{∥∥₁_prop}
 use Rattle.std.proofs.lemmas.Bool.{cond-true, cond-false, cases_Bool, and_parts, eqb-true}
-use Rattle.model.specs.declared.rows.Row.{Row}
-use Rattle.model.specs.declared.rows.Item.{Item}
 use Rattle.theory.specs.Language.{Expr}
 use Rattle.theory.specs.Machine.{Machine}
 use Rattle.theory.specs.Items.{spelled}
@@ -16,7 +14,7 @@ use Rattle.records.specs.declared.sheet.Verdict.TheVariants as verdict
 use Rattle.records.specs.Reading.{Found}
 use Rattle.tables.specs.Plain.{Plain}
 use Rattle.load.specs.Loaded.{bodies_of, rules_of}
-use Rattle.law.specs.Claims.{Includes, Offends, Lacks, Truly, AllTrue}
+use Rattle.law.specs.Claims.{Includes, Truly, AllTrue}
 use Rattle.law.specs.Sheets.{KindTrue}
 
 -- a pair that is entered truly

@@ -1,9 +1,9 @@
 -- The items of an excluded answer fit their places.
-use Rattle.std.proofs.Common.{◌≡◌, ℕ, zero, suc, ◌+◌, ◌<◌, ◌≤◌, Bool, true, false, ◌&&◌, ◌||◌, eqb, ltb, leb, ◌⊎◌, List, [], ◌∷◌, ◌++◌, length, get_or, sym, refl, ap, ◌∙◌, subst, inl, inr, ⊎_elim, arith}
+use Rattle.std.proofs.Common.{◌≡◌, ℕ, zero, suc, ◌+◌, ◌<◌, ◌≤◌, Bool, true, false, ◌&&◌, ◌||◌, eqb, ltb, leb, ◌⊎◌, List, [], ◌∷◌, ◌++◌, length, get_or, sym, refl, ap, ◌∙◌, subst, inl, inr, arith}
 use mathlib.Core.Bool.{Bool-set}
 use mathlib.Core.Logic.{∥∥₁_elim}
 use Rattle.std.proofs.lemmas.List.{get_or_append_left, get_or_at, length-append}
-use Rattle.std.proofs.lemmas.Bool.{cases_lt, cases_eq, and_from, or_left, or_right, lt-ltb, le-leb, eq-eqb, false≢true}
+use Rattle.std.proofs.lemmas.Bool.{cases_eq, and_from, or_left, or_right, lt-ltb, le-leb, eq-eqb, false≢true}
 use Rattle.model.specs.declared.names.Kind.{Kind}
 use Rattle.model.specs.declared.names.Kind.TheVariants as kind
 use Rattle.model.specs.declared.names.Name.{Name}
@@ -14,9 +14,9 @@ use Rattle.model.specs.Relation.{kind_of}
 use Rattle.theory.specs.Hedge.{Hedge, nothing, item}
 use Rattle.theory.specs.Language.{none}
 use Rattle.theory.specs.Items.{from_item, spelling, hedges, Earlier}
-use Rattle.theory.specs.Machine.{Machine, accepts}
+use Rattle.theory.specs.Machine.{Machine}
 use Rattle.theory.specs.Inequality.{Reachable, Member}
-use Rattle.meaning.specs.Names.{Kinded, Over}
+use Rattle.meaning.specs.Names.{Over}
 use Rattle.meaning.proofs.Members.{member_at}
 use Rattle.meaning.proofs.Names.{hedges_over_names}
 use Rattle.meaning.proofs.Simulation.{accepted_in}

@@ -10,7 +10,7 @@ use Rattle.states.specs.declared.error.BuildError.{BuildError}
 use Rattle.states.specs.declared.error.BuildError.TheVariants.{Recursion, TooLarge, NoMemory}
 use Rattle.states.specs.Build.{Built}
 use Rattle.load.specs.Errors.{of_build}
-use Rattle.load.specs.Loaded.{Loaded, Unlawful}
+use Rattle.load.specs.Loaded.{Loaded}
 use Rattle.load.specs.Loads.{Loads}
 
 -- lawful tables whose states were built are those of a loaded grammar

@@ -1,12 +1,11 @@
 -- What every loaded grammar keeps, and what comes of loading a text.
-use Rattle.std.specs.Prelude.{◌≡◌, ℕ, ◌<◌, ◌≤◌, List, length, Ok, Err, Result, slice_index}
-use Rattle.model.specs.Machine.{Plain as State, states_of}
+use Rattle.std.specs.Prelude.{◌≡◌, ℕ, ◌<◌, ◌≤◌, List, length, slice_index}
+use Rattle.model.specs.Machine.{Plain as State}
 use Rattle.theory.specs.Language.{Expr}
 use Rattle.theory.specs.Recursion.{LawfulRule, LawfulRules}
 use Rattle.theory.specs.Stands.{Stands}
 use Rattle.theory.specs.Tree.{body_of}
 use Rattle.tables.specs.Plain.{Plain}
-use Rattle.tables.specs.Read.{read}
 use Rattle.tables_law.specs.Lawful.{Lawful}
 use Rattle.expressions.specs.States.{total}
 

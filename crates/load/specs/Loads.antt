@@ -1,14 +1,13 @@
 -- What comes of loading a text.
 use Rattle.std.specs.Prelude.{◌≡◌, ℕ, List, Ok, Err, Result}
 use Rattle.model.specs.Machine.{states_of}
-use Rattle.theory.specs.Recursion.{LawfulRules}
 use Rattle.tables.specs.Plain.{Plain, plain}
 use Rattle.tables.specs.Read.{read}
 use Rattle.load.specs.declared.fault.GrammarFault.TheVariants.{Table, Recursion, Size}
 use Rattle.load.specs.declared.fault.LoadError.{LoadError}
 use Rattle.load.specs.declared.fault.LoadError.TheVariants.{Fault, Memory}
 use Rattle.load.specs.declared.grammar.Grammar.{Grammar}
-use Rattle.load.specs.Loaded.{Loaded, Unlawful, bodies_of, rules_of}
+use Rattle.load.specs.Loaded.{Loaded, Unlawful}
 
 -- A grammar comes of a text only with the tables that the text gives. Else the fault is the text's, or
 -- the line of the first rule that is not lawful, or that a lawful grammar is too large; or there was

@@ -1,14 +1,13 @@
 -- Marking: how it begins, what one more mark keeps, and what marks that no further step changes say.
-use Rattle.std.proofs.Common.{◌≡◌, ℕ, zero, suc, ◌+◌, ◌-◌, ◌^◌, ◌<◌, ◌≤◌, Bool, true, false, cond, not, ◌||◌, eqb, ltb, ◌≢◌, ◌⊎◌, List, [], ◌∷◌, ◌++◌, map, length, get_or, take, set, Some, None, Option, sym, refl, ap, ◌∙◌, subst, inl, inr, ⊎_elim, add-one, arith}
-use Rattle.std.proofs.lemmas.List.{length_push, length-set, length-map, length-take-le, get_or-set_same, get_or-set_other, get_or-map, get_or-take}
-use Rattle.std.proofs.lemmas.Bool.{cases_eq, cases_lt, cases_Bool, cond-true, cond-false, eq-eqb, ne_eqb, eqb-true, lt-ltb, le-ltb, ltb-true, or_parts, or_cases, or_left, or_right, false≢true, not_from_false, not_from_true, not-true}
+use Rattle.std.proofs.Common.{◌≡◌, ℕ, zero, suc, ◌+◌, ◌-◌, ◌^◌, ◌<◌, ◌≤◌, Bool, true, false, cond, not, ◌||◌, eqb, ◌≢◌, ◌⊎◌, List, [], ◌∷◌, ◌++◌, length, get_or, take, set, Some, None, Option, sym, refl, ap, ◌∙◌, subst, inl, inr, ⊎_elim, arith}
+use Rattle.std.proofs.lemmas.List.{length_push, length-map, length-take-le, get_or-set_same, get_or-set_other, get_or-map, get_or-take}
+use Rattle.std.proofs.lemmas.Bool.{cases_eq, cases_lt, cases_Bool, cond-true, cond-false, eq-eqb, ne_eqb, eqb-true, lt-ltb, le-ltb, or_parts, or_cases, false≢true, not_from_false, not_from_true}
 use Rattle.model.specs.declared.rows.Row.{Row}
 use Rattle.model.specs.declared.rows.Item.{Item}
 use Rattle.model.specs.Machine.{Derivative}
 use Rattle.model.specs.Blank.{blank_row}
 use Rattle.theory.specs.Hedge.{Hedge, nothing, item}
 use Rattle.theory.specs.Machine.{Machine, accepts}
-use Rattle.theory.specs.Count.{any}
 use Rattle.theory.specs.Inequality.{Pair, same_row, Refuted, by_empty, by_either_or, EitherOr, either_or, either_ors, Member, derivative, derivative_count, pairs, inconsistent}
 use Rattle.theory.specs.Items.{from_item, hedges}
 use Rattle.inequality.specs.Fits.{Fits, Witness}
@@ -18,9 +17,8 @@ use Rattle.inequality.proofs.Sides.{either_or_found, either_or_from}
 use Rattle.inequality.proofs.Subsets.{witness_item, inconsistent_witness}
 use Rattle.inequality.proofs.Marking.{tells_row}
 use Rattle.book.specs.Place.{place}
-use Rattle.book.proofs.Enter.{place_le}
 use Rattle.marking.specs.Refutes.{mark_of, first, joined, of_subset, of_covered, of_derivatives, refutation}
-use Rattle.marking.specs.Marks.{free, unset, SetAt, Had, LeftHad, Marked, Narrow, StillFrom, Rooted, flags}
+use Rattle.marking.specs.Marks.{free, unset, SetAt, Had, LeftHad, Marked, StillFrom, flags}
 use Rattle.marking.proofs.First.{first_found, first_none}
 use Rattle.marking.proofs.Spelling.{hedges_old, hedges_new, earlier_push}
 

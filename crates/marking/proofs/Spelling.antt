@@ -1,11 +1,11 @@
 -- The hedges that items spell, one item more.
-use Rattle.std.proofs.Common.{◌≡◌, ℕ, suc, ◌+◌, ◌<◌, ◌≤◌, List, [], ◌∷◌, ◌++◌, length, get_or, sym, refl, ap, ◌∙◌, subst, ⊎_elim, add-one, arith}
+use Rattle.std.proofs.Common.{◌≡◌, ℕ, ◌+◌, ◌<◌, ◌≤◌, List, [], ◌∷◌, ◌++◌, length, get_or, sym, refl, ap, ◌∙◌, subst, ⊎_elim, arith}
 use Rattle.std.proofs.lemmas.List.{length_push, get_or_append_left, get_or_push}
 use Rattle.std.proofs.lemmas.Bool.{cases_lt}
 use Rattle.model.specs.declared.rows.Item.{Item}
 use Rattle.model.specs.Blank.{blank_item}
-use Rattle.theory.specs.Hedge.{Hedge, nothing, item}
-use Rattle.theory.specs.Items.{from_item, spelling, hedges, spelled, Earlier}
+use Rattle.theory.specs.Hedge.{Hedge, nothing}
+use Rattle.theory.specs.Items.{from_item, spelling, hedges, Earlier}
 
 spelling_append : (before : List Hedge) (xs ys : List Item) → spelling before (xs ++ ys) ≡ spelling (spelling before xs) ys
 spelling_append before [] ys = refl

@@ -1,5 +1,5 @@
 -- The turns of marking.
-use Rattle.std.proofs.Common.{◌≡◌, ℕ, zero, suc, ◌+◌, ◌-◌, ◌<◌, ◌≤◌, min, Bool, true, false, cond, List, [], ◌∷◌, ◌++◌, length, get_or, take, set, Some, None, Option, sym, refl, ap, ◌∙◌, subst, ⊎_elim, arith}
+use Rattle.std.proofs.Common.{◌≡◌, ℕ, ◌+◌, ◌<◌, ◌≤◌, Bool, true, false, cond, List, [], ◌∷◌, ◌++◌, length, get_or, take, set, Some, None, sym, refl, ap, ◌∙◌, subst, ⊎_elim, arith}
 use Rattle.std.proofs.lemmas.List.{length-take-le, length-set, take_more_set, get_or-set_same, get_or-set_other}
 use Rattle.std.proofs.lemmas.Bool.{cases_eq}
 use Rattle.model.specs.declared.rows.Row.{Row}
@@ -7,8 +7,8 @@ use Rattle.model.specs.declared.rows.Item.{Item}
 use Rattle.model.specs.Blank.{blank_row}
 use Rattle.theory.specs.Machine.{Machine}
 use Rattle.marking.specs.Refutes.{refutation}
-use Rattle.marking.specs.Marks.{unset, SetAt, Marked, Narrow, StillFrom, Rooted}
-use Rattle.marking.specs.Steps.{Roomy, Ready, Step, Sweeping, Swept, Settled}
+use Rattle.marking.specs.Marks.{SetAt, Marked, StillFrom, Rooted}
+use Rattle.marking.specs.Steps.{Roomy, Ready, Step, Sweeping, Swept}
 use Rattle.theory.specs.Inequality.{inconsistent}
 use Rattle.marking.proofs.Marked.{unset_one, marked_start, marked_more}
 

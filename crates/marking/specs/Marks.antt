@@ -1,9 +1,9 @@
 -- What the marks of a list of rows and the items so far hold.
-use Rattle.std.specs.Prelude.{◌≡◌, ℕ, zero, suc, ◌+◌, ◌-◌, ◌<◌, ◌≤◌, Bool, true, false, cond, not, List, [], map, length, get_or, take, Some, None, Option, ◌==◌, slice_index, slice_index_or}
+use Rattle.std.specs.Prelude.{◌≡◌, ℕ, zero, suc, ◌+◌, ◌-◌, ◌<◌, ◌≤◌, Bool, true, false, cond, not, List, map, length, get_or, take, None, ◌==◌, slice_index, slice_index_or}
 use Rattle.model.specs.declared.rows.Row.{Row}
 use Rattle.model.specs.declared.rows.Item.{Item}
 use Rattle.model.specs.Blank.{blank_row}
-use Rattle.theory.specs.Hedge.{Hedge, nothing}
+use Rattle.theory.specs.Hedge.{nothing}
 use Rattle.theory.specs.Machine.{Machine, accepts}
 use Rattle.theory.specs.Inequality.{Refuted, inconsistent, wide}
 use Rattle.theory.specs.Items.{hedges, Earlier}

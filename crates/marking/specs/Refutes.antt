@@ -1,6 +1,6 @@
 -- Looking for an either-or both of whose sides are marked. A mark of 0 stands for a row that is not
 -- refuted so far; any other mark is one more than the number of the hedge that refutes the row.
-use Rattle.std.specs.Prelude.{ℕ, zero, suc, ◌-◌, ◌^◌, Bool, true, false, cond, ◌||◌, List, length, Some, None, Option, ◌==◌, nat_lt, slice_index}
+use Rattle.std.specs.Prelude.{ℕ, zero, suc, ◌-◌, ◌^◌, Bool, cond, ◌||◌, List, length, Some, None, Option, ◌==◌, nat_lt, slice_index}
 use Rattle.model.specs.declared.rows.Row.{Row}
 use Rattle.model.specs.declared.rows.Item.{Item}
 use Rattle.model.specs.Machine.{Derivative}

@@ -1,5 +1,5 @@
 -- An answer that is given only under a test, taken further.
-use Rattle.std.proofs.Common.{◌≡◌, Bool, true, false, cond, Some, None, Option, refl, ap}
+use Rattle.std.proofs.Common.{◌≡◌, Bool, true, false, cond, Some, None, refl, ap}
 
 pub told_some : {X Y : Type 0} (b : Bool) (s x : X) (f : X → Y) → Some x ≡ cond b (Some s) None →
     Some (f x) ≡ cond b (Some (f s)) None

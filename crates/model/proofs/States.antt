@@ -3,7 +3,7 @@ use Rattle.std.proofs.Common.{◌≡◌, ℕ, ◌<◌, ◌≤◌, length, get_or
 use Rattle.std.proofs.lemmas.List.{get_or-map, get_or_past, length-map}
 use Rattle.model.specs.declared.machine.State.{State}
 use Rattle.model.specs.declared.machine.Machine.{Machine}
-use Rattle.model.specs.Machine.{Plain, plain, no_state, states_of}
+use Rattle.model.specs.Machine.{plain, no_state, states_of}
 
 pub state_count : (m : Machine) → vec_len m.states ≡ length (states_of m)
 state_count m = m.states.ok.0 ∙ sym (length-map (vec_items m.states) plain)

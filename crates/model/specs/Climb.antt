@@ -1,5 +1,5 @@
 -- The way from a name up by heads: its steps, and that it stays among names of one kind.
-use Rattle.std.specs.Prelude.{◌≡◌, ℕ, zero, suc, ◌-◌, ◌<◌, Bool, true, false, ◌&&◌, ◌||◌, List, length, Some, None, Option, ◌≢◌, nat_lt, slice_index_or, refl}
+use Rattle.std.specs.Prelude.{◌≡◌, ℕ, zero, suc, ◌-◌, ◌<◌, Bool, true, false, ◌||◌, List, length, Some, None, Option, ◌≢◌, nat_lt, slice_index_or, refl}
 use Rattle.std.proofs.Common.{arith, sub-one, sym, ap, subst, ◌∙◌, ⊎_elim, eq-eqb, ne_eqb, eqb-true, lt-ltb, ltb-true}
 use Rattle.std.proofs.lemmas.Bool.{or_left, or_cases, and_parts, and_from, false≢true}
 use Rattle.model.specs.declared.names.Name.{Name}

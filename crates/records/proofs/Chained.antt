@@ -1,5 +1,5 @@
 -- What holds of every success of a chain of tests.
-use Rattle.std.proofs.Common.{◌≡◌, ℕ, Bool, true, false, cond, IfOk, Ok, Err, Result, sym, refl, ap, subst}
+use Rattle.std.proofs.Common.{◌≡◌, Bool, true, false, cond, IfOk, Ok, Err, Result, refl, subst}
 use Rattle.std.proofs.lemmas.Bool.{false≢true}
 use Rattle.text.specs.declared.fault.LineFault.{LineFault}
 use Rattle.records.specs.Chains.{then, of_line}

@@ -1,5 +1,5 @@
 -- What every line keeps: the records so far are counted, have their places and fit them.
-use Rattle.std.proofs.Common.{◌≡◌, ℕ, zero, suc, ◌+◌, ◌-◌, ◌*◌, ◌/◌, ◌%◌, ◌^◌, ◌<◌, ◌≤◌, min, Bool, true, false, cond, ◌&&◌, ◌||◌, eqb, ltb, leb, ◌⊎◌, List, [], ◌∷◌, ◌++◌, length, get_or, set, replicate, IfOk, Ok, Err, codes, Result, sym, refl, ap, ◌∙◌, subst, inl, inr, ⊎_elim, pow-suc, add-one, arith}
+use Rattle.std.proofs.Common.{◌≡◌, ℕ, suc, ◌+◌, ◌-◌, ◌*◌, ◌/◌, ◌%◌, ◌^◌, ◌<◌, ◌≤◌, min, Bool, true, false, cond, ◌&&◌, eqb, ltb, leb, ◌⊎◌, List, [], ◌∷◌, ◌++◌, length, set, replicate, IfOk, Ok, Err, codes, Result, sym, refl, ap, ◌∙◌, subst, inl, inr, ⊎_elim, pow-suc, add-one, arith}
 use native.Mathlib.Nat.{div-eq_of_lt}
 use lib.Bits.{bit_or, or_shifted_r}
 use Rattle.std.specs.List.{AllByRecursion as All}
@@ -10,7 +10,6 @@ use Rattle.std.proofs.lemmas.Bool.{and_parts, ltb-true, leb-true, lt-ltb, eqb-tr
 use Rattle.model.specs.declared.names.Name.{Name}
 use Rattle.model.specs.declared.rows.Row.{Row}
 use Rattle.model.specs.declared.rows.Item.{Item}
-use Rattle.model.specs.declared.sets.StateSet.{StateSet}
 use Rattle.model.specs.Blank.{blank_item}
 use Rattle.model.specs.Sets.{has, insert}
 use Rattle.text.specs.Pieces.{lines, onto}
@@ -27,7 +26,7 @@ use Rattle.records.specs.declared.sheet.Step.{Step}
 use Rattle.records.specs.declared.sheet.Step.TheVariants.{Opened, Begun, Paired, Row as a_row, Item as an_item, Ended as the_end}
 use Rattle.records.specs.Chains.{then, of_line, misplaced}
 use Rattle.records.specs.Places.{item_fits, RowFits, ItemsFit, HasPlace}
-use Rattle.records.specs.Lines.{worded, verdict_in, sheet_line, hedge_line, pair_line, all_numbers, right_states, roomy, row_line, item_line, end_line, at_stage, judged}
+use Rattle.records.specs.Lines.{worded, verdict_in, pair_line, all_numbers, right_states, roomy, row_line, item_line, end_line, at_stage, judged}
 use Rattle.records.specs.Reading.{records_of, advanced, more_rows, more_items, row_placed, item_placed, Found, entered, finished, run, padded, begun, Opening, answer, itself}
 use Rattle.records.proofs.Chained.{made_then, made_cond, made_either, cond_ok, made_is}
 

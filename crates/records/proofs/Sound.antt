@@ -1,18 +1,15 @@
 -- The records of a text that was read, as the slices hold them afterwards.
-use Rattle.std.proofs.Common.{◌≡◌, ℕ, ◌+◌, ◌-◌, ◌<◌, ◌≤◌, Bool, true, false, cond, ◌&&◌, ◌||◌, eqb, ltb, leb, ◌⊎◌, List, [], ◌∷◌, ◌++◌, length, get_or, take, drop, replicate, IfOk, Ok, Err, Result, sym, refl, ap, ◌∙◌, subst, inl, inr, ⊎_elim, arith}
+use Rattle.std.proofs.Common.{◌≡◌, ℕ, ◌+◌, ◌-◌, ◌<◌, ◌≤◌, true, false, ◌||◌, eqb, ltb, leb, List, [], length, replicate, IfOk, Ok, Err, Result, sym, refl, ap, ◌∙◌, subst, ⊎_elim, arith}
 use native.Mathlib.Nat.{sub-zero}
 use Rattle.std.specs.List.{AllByRecursion as All}
 use Rattle.std.proofs.ByRecursion.{All-get_or}
 use Rattle.std.proofs.lemmas.Result.{IfOk-weaker}
 use Rattle.std.proofs.lemmas.List.{length-append, length-replicate, get_or_append_left, take_at, drop_at}
-use Rattle.std.proofs.lemmas.Bool.{and_parts, or_cases, ltb-true, leb-true, eqb-true, false≢true, cond-true}
-use Rattle.model.specs.declared.names.Kind.{Kind}
-use Rattle.model.specs.declared.names.Kind.TheVariants.{Simple, Element}
+use Rattle.std.proofs.lemmas.Bool.{and_parts, or_cases, ltb-true, leb-true, eqb-true, false≢true}
 use Rattle.model.specs.declared.names.Name.{Name}
 use Rattle.model.specs.declared.rows.Row.{Row}
 use Rattle.model.specs.declared.rows.Item.{Item}
 use Rattle.model.specs.Blank.{blank_row, blank_item}
-use Rattle.model.specs.Relation.{kind_of}
 use Rattle.theory.specs.Items.{Earlier}
 use Rattle.text.specs.Pieces.{lines, whole_text}
 use Rattle.records.specs.declared.fault.CallFault.{CallFault}
@@ -22,11 +19,11 @@ use Rattle.records.specs.declared.sheet.Stage.{Stage}
 use Rattle.records.specs.declared.sheet.Stage.TheVariants.{Sheet, Hedge, Pair, Rows, Items, Ended}
 use Rattle.records.specs.declared.sheet.Progress.{Progress}
 use Rattle.records.specs.declared.sheet.Limits.{Limits}
-use Rattle.records.specs.Chains.{then, of_line}
+use Rattle.records.specs.Chains.{of_line}
 use Rattle.records.specs.Places.{is_element, element, item_fits, RowFits, ItemSound, ItemsFit}
 use Rattle.records.specs.declared.sheet.Step.{Step}
 use Rattle.records.specs.declared.sheet.Step.TheVariants.{Opened, Begun, Paired, Row as a_row, Item as an_item, Ended as the_end}
-use Rattle.records.specs.Reading.{Found, advanced, begun, Opening, run, counted, limit, text_read, sheet_of, sheet_read, hedge_read, count_of, answer, itself, rows_in, items_in, padded, RowsSound, ItemsSound, RecordsSound, SheetSound}
+use Rattle.records.specs.Reading.{Found, advanced, begun, Opening, run, counted, limit, text_read, sheet_of, sheet_read, hedge_read, answer, itself, rows_in, items_in, padded, RowsSound, ItemsSound, RecordsSound, SheetSound}
 use Rattle.records.proofs.Chained.{made_then, made_is, cond_ok}
 use Rattle.records.proofs.Kept.{Kept, Placed, Good, HasPair, kept_begun, kept_step, pair_step, run_keeps}
 

@@ -1,10 +1,8 @@
 -- What each line of a sheet or a hedge says, or why it is refused: its key, first value and number
 -- of fields are tested first, then the room for its record, then the form of each number, then
 -- what is allowed at its place.
-use Rattle.std.specs.Prelude.{ℕ, ◌+◌, min, Bool, cond, ◌&&◌, List, [], ◌∷◌, length, Ok, Err, codes, Result, ◌==◌, nat_le, nat_lt}
+use Rattle.std.specs.Prelude.{ℕ, ◌+◌, min, cond, ◌&&◌, List, [], ◌∷◌, Ok, Err, codes, Result, ◌==◌, nat_le, nat_lt}
 use Rattle.model.specs.declared.names.Name.{Name}
-use Rattle.model.specs.declared.rows.Row.{Row}
-use Rattle.model.specs.declared.rows.Item.{Item}
 use Rattle.model.specs.declared.sets.StateSet.{StateSet}
 use Rattle.model.specs.Sets.{insert}
 use Rattle.text.specs.declared.fault.LineFault.{LineFault}

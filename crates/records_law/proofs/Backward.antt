@@ -1,5 +1,5 @@
 -- A line that is accepted is, byte for byte, the line of what it says.
-use Rattle.std.proofs.Common.{◌≡◌, ℕ, zero, suc, ◌+◌, ◌-◌, ◌^◌, ◌<◌, ◌≤◌, Bool, true, false, cond, ◌&&◌, eqb, ltb, ◌⊎◌, List, [], ◌∷◌, ◌++◌, map, length, Some, None, Ok, Err, codes, decimal, Option, Result, sym, refl, ap, ◌∙◌, subst, inl, inr, ⊎_elim, arith}
+use Rattle.std.proofs.Common.{◌≡◌, ℕ, Bool, true, false, cond, ◌&&◌, eqb, ltb, ◌⊎◌, List, [], ◌∷◌, ◌++◌, map, Some, None, Ok, Err, codes, decimal, Option, Result, sym, refl, ap, ◌∙◌, inl, inr, arith}
 use Rattle.std.specs.Str.{bytes_eq}
 use Rattle.std.proofs.lemmas.Nat.{pow_pos}
 use Rattle.std.proofs.lemmas.Slice.Eq.{bytes_eq-Decides}
@@ -7,26 +7,22 @@ use Rattle.std.proofs.lemmas.Bool.{eqb-true, false≢true}
 use Rattle.model.specs.declared.names.Name.{Name}
 use Rattle.model.specs.declared.rows.Row.{Row}
 use Rattle.model.specs.declared.rows.Item.{Item}
-use Rattle.model.specs.declared.sets.StateSet.{StateSet}
-use Rattle.text.specs.declared.fault.LineFault.{LineFault}
 use Rattle.text.specs.declared.fault.LineFault.TheVariants.{Form}
 use Rattle.text.specs.Pieces.{before, after, fields}
-use Rattle.text.specs.Fields.{View, key, number, line_of, is_word, value_in}
-use Rattle.text.specs.Cursors.{taken, others, ended, parts_at, line_parts}
-use Rattle.records.specs.declared.fault.CallFault.{CallFault}
+use Rattle.text.specs.Fields.{View, key, number, value_in}
+use Rattle.text.specs.Cursors.{taken, others, ended, parts_at}
 use Rattle.records.specs.declared.sheet.Verdict.{Verdict}
 use Rattle.records.specs.declared.sheet.Verdict.TheVariants.{Included, Excluded}
-use Rattle.records.specs.declared.sheet.Stage.{Stage}
-use Rattle.records.specs.declared.sheet.Stage.TheVariants.{Sheet, Hedge, Pair, Rows, Items, Ended}
+use Rattle.records.specs.declared.sheet.Stage.TheVariants.{Rows, Items, Ended}
 use Rattle.records.specs.declared.sheet.Progress.{Progress}
 use Rattle.records.specs.declared.sheet.Limits.{Limits}
 use Rattle.records.specs.declared.sheet.Step.{Step}
-use Rattle.records.specs.declared.sheet.Step.TheVariants.{Opened, Begun, Paired, Row as a_row, Item as an_item, Ended as the_end}
-use Rattle.records.specs.Chains.{then, of_line, misplaced}
+use Rattle.records.specs.declared.sheet.Step.TheVariants.{Opened, Paired, Row as a_row, Item as an_item, Ended as the_end}
+use Rattle.records.specs.Chains.{then, of_line}
 use Rattle.records.specs.Places.{item_fits}
 use Rattle.records.specs.Lines.{worded, verdict_in, sheet_line, pair_line, roomy, all_numbers, right_states, row_line, item_line, end_line, at_stage, judged}
 use Rattle.records.proofs.Chained.{then_ok, line_ok, cond_ok}
-use Rattle.writing.specs.Texts.{further, members, verdict_text}
+use Rattle.writing.specs.Texts.{members, verdict_text}
 use Rattle.records_law.proofs.Numbers.{value_back}
 use Rattle.records_law.proofs.Pieced.{joined, fields_back, after_back}
 use Rattle.records_law.proofs.Bits.{right_back}

@@ -1,36 +1,35 @@
 -- The lines of a sheet that is written are judged to be what they were written of.
-use Rattle.std.proofs.Common.{◌≡◌, ℕ, zero, suc, ◌+◌, ◌-◌, ◌*◌, ◌/◌, ◌%◌, ◌^◌, ◌<◌, ◌≤◌, min, Bool, true, false, cond, not, ◌&&◌, eqb, ltb, leb, List, [], ◌∷◌, ◌++◌, map, length, take, Some, Ok, Err, codes, decimal, Result, sym, refl, ap, ◌∙◌, subst, ⊎_elim, mod-eq_of_lt, arith}
-use Rattle.std.specs.List.{AllByRecursion as All}
+use Rattle.std.proofs.Common.{◌≡◌, ℕ, zero, suc, ◌+◌, ◌/◌, ◌%◌, ◌^◌, ◌<◌, ◌≤◌, min, Bool, true, false, cond, not, ◌&&◌, eqb, ltb, leb, List, [], ◌∷◌, ◌++◌, map, length, Some, Ok, Err, codes, decimal, Result, sym, refl, ap, ◌∙◌, subst, ⊎_elim, mod-eq_of_lt, arith}
 use Rattle.std.proofs.lemmas.Nat.{pow_pos, le-div, mod_below}
 use Rattle.std.proofs.lemmas.Fmt.{digits_decimal}
-use Rattle.std.proofs.lemmas.List.{append_assoc, append-nil}
-use Rattle.std.proofs.lemmas.Bool.{and_parts, and_from, ltb-true, lt-ltb, leb-true, le-leb, eqb-true, eq-eqb, ne_eqb, cond-true, not-true, cases_lt}
+use Rattle.std.proofs.lemmas.List.{append_assoc}
+use Rattle.std.proofs.lemmas.Bool.{and_parts, and_from, ltb-true, lt-ltb, leb-true, eqb-true, eq-eqb, ne_eqb, cond-true, not-true, cases_lt}
 use Rattle.model.specs.declared.names.Name.{Name}
 use Rattle.model.specs.declared.rows.Row.{Row}
 use Rattle.model.specs.declared.rows.Item.{Item}
 use Rattle.model.specs.declared.sets.StateSet.{StateSet}
 use Rattle.model.specs.Sets.{has}
-use Rattle.text.specs.Pieces.{before, after, fields, lines}
-use Rattle.text.specs.Fields.{View, key, number, value_in}
+use Rattle.text.specs.Pieces.{after, lines}
+use Rattle.text.specs.Fields.{key, number, value_in}
 use Rattle.text.specs.Cursors.{parts_at, line_parts}
 use Rattle.records.specs.declared.fault.CallFault.{CallFault}
 use Rattle.records.specs.declared.fault.CallFault.TheVariants.{Rule}
 use Rattle.records.specs.declared.sheet.Verdict.{Verdict}
 use Rattle.records.specs.declared.sheet.Verdict.TheVariants.{Included, Excluded}
 use Rattle.records.specs.declared.sheet.Stage.{Stage}
-use Rattle.records.specs.declared.sheet.Stage.TheVariants.{Sheet, Hedge, Pair, Rows, Items, Ended}
+use Rattle.records.specs.declared.sheet.Stage.TheVariants.{Sheet, Pair, Rows, Items}
 use Rattle.records.specs.declared.sheet.Progress.{Progress}
 use Rattle.records.specs.declared.sheet.Limits.{Limits}
 use Rattle.records.specs.declared.sheet.Step.{Step}
-use Rattle.records.specs.declared.sheet.Step.TheVariants.{Opened, Begun, Paired, Row as a_row, Item as an_item, Ended as the_end}
+use Rattle.records.specs.declared.sheet.Step.TheVariants.{Opened, Paired, Row as a_row, Item as an_item, Ended as the_end}
 use Rattle.records.specs.Chains.{then, of_line, misplaced, roomless}
 use Rattle.records.specs.Places.{item_fits}
-use Rattle.records.specs.Lines.{roomy, all_numbers, right_states, sheet_line, pair_line, row_line, item_line, end_line, at_stage, judged}
+use Rattle.records.specs.Lines.{all_numbers, right_states, end_line, at_stage, judged}
 use Rattle.records.specs.Reading.{records_of}
 use Rattle.records.proofs.Kept.{has_below, pow_up}
 use Rattle.writing.proofs.Spelled.{members_suc, members_zero}
 use Rattle.records.proofs.Sound.{item_sound}
-use Rattle.writing.specs.Texts.{further, line_text, members, row_text, item_text, all_texts, verdict_text, verdict_line, pair_text, end_text}
+use Rattle.writing.specs.Texts.{further, line_text, members, verdict_text}
 use Rattle.writing.specs.Checks.{row_fits}
 use Rattle.records_law.proofs.Numbers.{all_digits, own, value_on}
 use Rattle.records_law.proofs.Pieced.{Lacks, lacks_append, AllLack, fields_on, before_on, lines_on}

@@ -1,5 +1,5 @@
 -- What is written reads back.
-use Rattle.std.proofs.Common.{◌≡◌, ℕ, zero, suc, ◌+◌, ◌-◌, ◌<◌, ◌≤◌, Bool, true, false, cond, ◌&&◌, eqb, ltb, leb, List, [], ◌∷◌, ◌++◌, map, length, take, Ok, Err, codes, decimal, Result, sym, refl, ap, ◌∙◌, subst, arith}
+use Rattle.std.proofs.Common.{◌≡◌, ℕ, zero, suc, ◌+◌, ◌<◌, ◌≤◌, Bool, true, false, cond, ◌&&◌, ltb, List, [], ◌∷◌, ◌++◌, map, length, take, Ok, codes, decimal, sym, refl, ap, ◌∙◌, arith}
 use Rattle.std.specs.List.{AllByRecursion as All}
 use Rattle.std.proofs.lemmas.List.{append_assoc, append-nil, length-take-le}
 use Rattle.std.proofs.lemmas.Bool.{and_parts, ltb-true, false≢true}
@@ -7,28 +7,26 @@ use Rattle.model.specs.declared.names.Name.{Name}
 use Rattle.model.specs.declared.rows.Row.{Row}
 use Rattle.model.specs.declared.rows.Item.{Item}
 use Rattle.text.specs.Pieces.{lines, whole_text}
-use Rattle.records.specs.declared.fault.CallFault.{CallFault}
 use Rattle.records.specs.declared.sheet.Verdict.{Verdict}
 use Rattle.records.specs.declared.sheet.Verdict.TheVariants.{Included, Excluded}
-use Rattle.records.specs.declared.sheet.Stage.{Stage}
-use Rattle.records.specs.declared.sheet.Stage.TheVariants.{Sheet, Hedge, Pair, Rows, Items, Ended}
+use Rattle.records.specs.declared.sheet.Stage.TheVariants.{Sheet, Rows, Items, Ended}
 use Rattle.records.specs.declared.sheet.Progress.{Progress}
 use Rattle.records.specs.declared.sheet.Limits.{Limits}
 use Rattle.records.specs.declared.sheet.Sheet.{Sheet as SheetType}
 use Rattle.records.specs.declared.sheet.Step.{Step}
-use Rattle.records.specs.declared.sheet.Step.TheVariants.{Opened, Begun, Paired, Row as a_row, Item as an_item, Ended as the_end}
+use Rattle.records.specs.declared.sheet.Step.TheVariants.{Opened, Paired, Row as a_row, Item as an_item, Ended as the_end}
 use Rattle.records.specs.Chains.{then, of_line, misplaced}
 use Rattle.records.specs.Places.{item_fits}
 use Rattle.records.specs.Lines.{judged}
-use Rattle.records.specs.Reading.{Found, records_of, advanced, entered, run, begun, counted, limit, text_read, sheet_read}
+use Rattle.records.specs.Reading.{Found, records_of, entered, run, begun, counted, limit}
 use Rattle.records.proofs.Chained.{then_ok, cond_ok}
 use Rattle.records.proofs.Sound.{item_sound}
-use Rattle.writing.specs.Texts.{line_text, members, row_text, item_text, all_texts, verdict_text, verdict_line, pair_text, end_text, records_text, sheet_text}
-use Rattle.writing.specs.Checks.{row_fits, places_checked, records_checked, pair_checked, sheet_checked}
+use Rattle.writing.specs.Texts.{members, row_text, item_text, all_texts, verdict_text, verdict_line, pair_text, end_text, records_text, sheet_text}
+use Rattle.writing.specs.Checks.{row_fits, places_checked, records_checked, pair_checked}
 use Rattle.writing.proofs.Bounded.{places_ok, counts_ok}
-use Rattle.records_law.specs.Laws.{rows_of, items_of, as_read, Sizes, ReadsBack}
+use Rattle.records_law.specs.Laws.{rows_of, items_of, Sizes, ReadsBack}
 use Rattle.records_law.proofs.Forward.{line_bytes, lines_line, lacks_from, lacks_decimal, lacks_members, sheet_on, pair_on, end_on, row_bytes, item_bytes, row_on, item_on}
-use Rattle.records_law.proofs.Tight.{records_tight, sheet_whole}
+use Rattle.records_law.proofs.Tight.{sheet_whole}
 
 -- one line more
 pub run_on : (L : Limits) (names : List Name) (f : Found) (n : ℕ) (l : List ℕ) (ls : List (List ℕ)) (s : Step) → judged L names f.at (n + 1) l ≡ Ok s →

@@ -1,27 +1,25 @@
 -- What is accepted was written so.
-use Rattle.std.proofs.Common.{◌≡◌, ℕ, zero, suc, ◌+◌, ◌-◌, ◌<◌, ◌≤◌, Bool, true, false, cond, not, ◌||◌, eqb, ltb, ◌⊎◌, List, [], ◌∷◌, ◌++◌, map, length, take, Ok, Err, codes, decimal, Result, sym, refl, ap, ◌∙◌, subst, inl, inr, arith}
+use Rattle.std.proofs.Common.{◌≡◌, ℕ, ◌+◌, Bool, true, false, cond, not, ◌||◌, eqb, ltb, ◌⊎◌, List, [], ◌∷◌, ◌++◌, length, take, Ok, Err, codes, decimal, Result, sym, refl, ap, ◌∙◌, inl, inr, arith}
 use Rattle.std.proofs.lemmas.List.{append_assoc, append-nil, take_all}
 use Rattle.std.proofs.lemmas.Bool.{or_parts, not-false, eqb-true, false≢true}
 use Rattle.model.specs.declared.names.Name.{Name}
 use Rattle.model.specs.declared.rows.Row.{Row}
 use Rattle.model.specs.declared.rows.Item.{Item}
 use Rattle.text.specs.Pieces.{lines, last_byte, whole_text}
-use Rattle.records.specs.declared.fault.CallFault.{CallFault}
 use Rattle.records.specs.declared.sheet.Verdict.{Verdict}
 use Rattle.records.specs.declared.sheet.Verdict.TheVariants.{Included, Excluded}
 use Rattle.records.specs.declared.sheet.Stage.{Stage}
 use Rattle.records.specs.declared.sheet.Stage.TheVariants.{Sheet, Hedge, Pair, Rows, Items, Ended}
-use Rattle.records.specs.declared.sheet.Progress.{Progress}
 use Rattle.records.specs.declared.sheet.Limits.{Limits}
 use Rattle.records.specs.declared.sheet.Step.{Step}
-use Rattle.records.specs.declared.sheet.Step.TheVariants.{Opened, Begun, Paired, Row as a_row, Item as an_item, Ended as the_end}
+use Rattle.records.specs.declared.sheet.Step.TheVariants.{Opened, Row as a_row, Item as an_item, Ended as the_end}
 use Rattle.records.specs.Chains.{then, of_line}
-use Rattle.records.specs.Lines.{at_stage, judged}
-use Rattle.records.specs.Reading.{Found, records_of, entered, finished, run, begun, counted, limit, text_read, sheet_read, sheet_of}
+use Rattle.records.specs.Lines.{judged}
+use Rattle.records.specs.Reading.{Found, records_of, entered, finished, run, begun, counted, limit, sheet_of}
 use Rattle.records.proofs.Chained.{then_ok, line_ok}
 use Rattle.writing.specs.Texts.{line_text, row_text, item_text, all_texts, verdict_text, verdict_line, pair_text, end_text, records_text, sheet_text}
 use Rattle.records_law.specs.Laws.{IsWritten}
-use Rattle.records_law.proofs.Pieced.{unlined, Ends, ends_from, lines_back}
+use Rattle.records_law.proofs.Pieced.{unlined, ends_from, lines_back}
 use Rattle.records_law.proofs.Forward.{line_bytes, line_ends, row_bytes, item_bytes}
 use Rattle.records_law.proofs.Readback.{ended}
 use Rattle.records_law.proofs.Backward.{opened, sheet_back, pair_back, rows_line, items_line, no_line}

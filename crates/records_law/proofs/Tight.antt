@@ -1,5 +1,5 @@
 -- A sheet of a grammar is within the limit of a text.
-use Rattle.std.proofs.Common.{◌≡◌, ℕ, zero, suc, ◌+◌, ◌-◌, ◌*◌, ◌^◌, ◌<◌, ◌≤◌, min, Bool, true, false, cond, not, ◌&&◌, ◌||◌, eqb, ltb, List, [], ◌∷◌, ◌++◌, map, length, get_or, take, Ok, Err, codes, decimal, sym, refl, ap, ◌∙◌, subst, ⊎_elim, arith}
+use Rattle.std.proofs.Common.{◌≡◌, ℕ, zero, suc, ◌+◌, ◌-◌, ◌*◌, ◌^◌, ◌<◌, ◌≤◌, min, Bool, true, false, cond, ltb, List, [], ◌∷◌, ◌++◌, map, length, get_or, take, Ok, codes, decimal, refl, ap, ◌∙◌, ⊎_elim, arith}
 use Rattle.std.specs.List.{AllByRecursion as All}
 use Rattle.std.proofs.lemmas.Fmt.{length-decimal-le}
 use Rattle.std.proofs.lemmas.List.{length-append, length-take-le, get_or-append_right}
@@ -15,7 +15,7 @@ use Rattle.records.specs.declared.sheet.Sheet.{Sheet}
 use Rattle.records.specs.Places.{item_fits}
 use Rattle.records.specs.Reading.{limit}
 use Rattle.records.proofs.Sound.{item_sound}
-use Rattle.writing.specs.Texts.{further, members, row_text, item_text, all_texts, verdict_line, pair_text, end_text, records_text, sheet_text, Enough}
+use Rattle.writing.specs.Texts.{further, members, row_text, item_text, all_texts, verdict_line, pair_text, end_text, records_text, sheet_text}
 use Rattle.writing.specs.Checks.{row_fits, records_checked}
 use Rattle.writing.proofs.Spelled.{members_suc, members_zero, line_length, two_length, one_length, sheet_length, verdict_length}
 use Rattle.writing.proofs.Bounded.{places_ok}

@@ -1,5 +1,5 @@
 -- What a question was given, and what its answer gives.
-use Rattle.std.proofs.Common.{◌≡◌, ℕ, ◌<◌, ◌≤◌, Bool, true, false, ◌&&◌, ltb, leb, List, length, take, Ok, Err, Result, sym, refl, ap, ◌∙◌, subst, arith}
+use Rattle.std.proofs.Common.{◌≡◌, ℕ, ◌<◌, ◌≤◌, true, ltb, leb, List, take, Ok, Result, sym, subst, arith}
 use Rattle.std.proofs.lemmas.Bool.{ltb-true, lt-ltb, le-leb, and_from}
 use Rattle.model.specs.declared.rows.Row.{Row}
 use Rattle.model.specs.declared.rows.Item.{Item}
@@ -8,7 +8,6 @@ use Rattle.theory.specs.Items.{spelled}
 use Rattle.ledger.specs.declared.table.Settled.{Settled}
 use Rattle.ledger.specs.declared.table.Settled.TheVariants as settled
 use Rattle.records.specs.declared.fault.CallFault.{CallFault}
-use Rattle.records.specs.Reading.{counted}
 use Rattle.records.proofs.Chained.{then_ok, cond_ok}
 use Rattle.search.specs.declared.answer.Answer.{Answer}
 use Rattle.search.specs.declared.answer.Answer.TheVariants.{Included, Excluded, Wide, OutOfRows}

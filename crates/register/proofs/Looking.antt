@@ -1,11 +1,10 @@
 -- What a look-up finds.
-use Rattle.std.proofs.Common.{◌≡◌, ℕ, Ok, Err, Result, sym, refl, ap, ◌∙◌, subst}
+use Rattle.std.proofs.Common.{◌≡◌, ℕ, Ok, sym, ap, ◌∙◌, subst}
 use mathlib.Core.HLevel.{Unit-prop}
 use mathlib.Core.Logic.{∥∥₁_elim, ∥∥₁_prop}
 use Rattle.theory.specs.Machine.{Machine}
 use Rattle.ledger.specs.declared.table.Settled.{Settled}
 use Rattle.ledger.specs.declared.table.Settled.TheVariants.{Unsettled, Included, Excluded}
-use Rattle.records.specs.declared.fault.CallFault.{CallFault}
 use Rattle.records.specs.Chains.{then}
 use Rattle.tables.specs.Plain.{Plain}
 use Rattle.load.specs.Loaded.{bodies_of, rules_of}

@@ -1,5 +1,5 @@
 -- What comes of a sheet once it was read.
-use Rattle.std.proofs.Common.{◌≡◌, ℕ, ◌-◌, ◌<◌, ◌≤◌, Bool, true, false, cond, ltb, List, [], ◌++◌, length, take, replicate, IfOk, Some, None, Ok, Err, Option, Result, sym, refl, ap, ◌∙◌, subst, arith}
+use Rattle.std.proofs.Common.{◌≡◌, ℕ, ◌<◌, true, false, cond, ltb, List, [], ◌++◌, length, take, replicate, IfOk, Some, None, Ok, Err, Option, Result, sym, refl, ap, ◌∙◌, subst, arith}
 use native.Mathlib.Nat.{sub-zero}
 use mathlib.Core.Logic.{∥∥₁_elim, ∥∥₁_map, ∥∥₁_prop}
 use mathlib.Core.HLevel.{×_prop, ¬_prop}
@@ -9,7 +9,6 @@ use Rattle.model.specs.declared.rows.Row.{Row}
 use Rattle.model.specs.declared.rows.Item.{Item}
 use Rattle.model.specs.Blank.{blank_row, blank_item}
 use Rattle.theory.specs.Machine.{Machine}
-use Rattle.theory.specs.Items.{spelled}
 use Rattle.ledger.specs.declared.table.Settled.{Settled}
 use Rattle.ledger.specs.declared.table.Settled.TheVariants.{Included as settled_included, Excluded as settled_excluded}
 use Rattle.ledger.specs.Settled.{enters}
@@ -25,7 +24,7 @@ use Rattle.judge.specs.Faults.{no_memory}
 use Rattle.writing.specs.Texts.{sheet_text, all_texts, row_text, item_text, verdict_line, pair_text, end_text, records_text}
 use Rattle.tables.specs.Plain.{Plain}
 use Rattle.load.specs.Loaded.{bodies_of, rules_of}
-use Rattle.law.specs.Claims.{AllTrue, Includes, Offends}
+use Rattle.law.specs.Claims.{AllTrue}
 use Rattle.law.specs.Grounded.{Grounded}
 use Rattle.law.specs.Sheets.{kind_fault, judged, sheet_outcome, sheet_answer, rows_left, items_left, KindTrue, OutcomeTrue}
 use Rattle.law.proofs.Reading.{WellRead, OfKind, sheet_well, sheet_pair, take_padded}

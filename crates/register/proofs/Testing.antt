@@ -1,7 +1,5 @@
 -- What comes of a membership test whose text was read.
-use Rattle.std.proofs.Common.{◌≡◌, ℕ, ◌<◌, ◌≤◌, Bool, true, false, ltb, ◌↔◌, List, length, take, Ok, Err, Result, sym, refl, ap, ◌∙◌, subst, arith}
-use mathlib.Core.Bool.{Bool-set}
-use mathlib.Core.Logic.{∥∥₁_elim, ∥∥₁_map}
+use Rattle.std.proofs.Common.{◌≡◌, ℕ, ◌<◌, Bool, true, false, ltb, ◌↔◌, List, length, take, Ok, Err, Result, sym, refl, ap, ◌∙◌, subst, arith}
 use Rattle.std.proofs.lemmas.Bool.{ltb-true, false≢true}
 use Rattle.model.specs.declared.names.Name.{Name}
 use Rattle.model.specs.declared.rows.Item.{Item}

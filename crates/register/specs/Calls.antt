@@ -1,5 +1,5 @@
 -- What the calls on a register answer, and what they leave.
-use Rattle.std.specs.Prelude.{◌≡◌, ℕ, Bool, cond, List, length, take, Ok, Err, Result, nat_lt}
+use Rattle.std.specs.Prelude.{◌≡◌, ℕ, cond, List, length, take, Ok, Err, Result, nat_lt}
 use Rattle.model.specs.declared.rows.Row.{Row}
 use Rattle.model.specs.declared.rows.Item.{Item}
 use Rattle.theory.specs.Machine.{Machine}

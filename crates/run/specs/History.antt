@@ -1,5 +1,5 @@
 -- Calls with their answers, and what stands settled after them.
-use Rattle.std.specs.Prelude.{◌≡◌, ℕ, min, List, [], ◌∷◌, ◌++◌, map, reverse, Some, None, vec_items, Option}
+use Rattle.std.specs.Prelude.{ℕ, min, List, [], ◌∷◌, reverse, Some, None, vec_items, Option}
 use Rattle.model.specs.declared.rows.Row.{Row}
 use Rattle.model.specs.declared.rows.Item.{Item}
 use Rattle.ledger.specs.declared.table.Settled.{Settled}

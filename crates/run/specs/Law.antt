@@ -1,13 +1,12 @@
 -- The law over whole runs of a register. A run is a history: calls with their answers and with what they left, the newest first, on one
 -- register from new.
-use Rattle.std.specs.Prelude.{◌≡◌, ℕ, min, true, ◌↔◌, List, [], ◌∷◌, length, take, replicate, Some, None, Ok, Err, Option, Result}
+use Rattle.std.specs.Prelude.{◌≡◌, ℕ, min, true, ◌↔◌, List, [], length, take, replicate, Some, None, Ok, Err, Option, Result}
 use Rattle.model.specs.declared.rows.Row.{Row}
 use Rattle.model.specs.declared.rows.Item.{Item}
 use Rattle.model.specs.Blank.{blank_row, blank_item}
 use Rattle.theory.specs.Machine.{Machine}
 use Rattle.theory.specs.Items.{spelled}
 use Rattle.ledger.specs.declared.table.Settled.{Settled}
-use Rattle.ledger.specs.declared.table.Settled.TheVariants as settled
 use Rattle.records.specs.declared.fault.CallFault.{CallFault}
 use Rattle.records.specs.declared.sheet.Sheet.{Sheet}
 use Rattle.records.specs.declared.sheet.Verdict.{Verdict}
@@ -21,14 +20,14 @@ use Rattle.search.specs.Answered.{root_of, Answered as AnsweredSo, Blanked}
 use Rattle.tables.specs.Plain.{Plain}
 use Rattle.load.specs.Loaded.{bodies_of, rules_of}
 use Rattle.law.specs.Claims.{Has, Includes, Offends}
-use Rattle.law.specs.Question.{VerdictTrue, Exactly}
-use Rattle.law.specs.Sheets.{sheet_outcome, rows_left, items_left, Exchanged}
-use Rattle.register.specs.Calls.{question_checked, looked_up, settles, SettledTrue}
+use Rattle.law.specs.Question.{VerdictTrue}
+use Rattle.law.specs.Sheets.{sheet_outcome, rows_left, items_left}
+use Rattle.register.specs.Calls.{question_checked, looked_up, SettledTrue}
 use Rattle.register.specs.Member.{member_outcome, member_answer, items_tested}
 use Rattle.register.specs.declared.membership.Membership.{Membership}
 use Rattle.run.specs.declared.call.Reply.{Reply}
 use Rattle.run.specs.declared.call.Reply.TheVariants.{Answered, Accepted, Tested, Wrote, Nothing, LookedUp, Cleared, Refused, Declined}
-use Rattle.run.specs.History.{Asked, question, sheet, member, write, look_up, clear, Event, Evidence, given, settled_after, sheet_after, lent}
+use Rattle.run.specs.History.{Asked, question, sheet, member, write, look_up, clear, Event, Evidence, lent}
 
 -- the reply to a sheet, by what comes of it
 abbrev pub sheet_reply : Result Found SheetFault → Reply

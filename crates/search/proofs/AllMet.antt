@@ -1,18 +1,17 @@
 -- What a meeting that met all gives to the decision.
-use Rattle.std.proofs.Common.{◌≡◌, ℕ, ◌+◌, ◌-◌, ◌<◌, ◌≤◌, Bool, true, false, ◌&&◌, ltb, leb, List, [], ◌∷◌, length, get_or, take, sym, refl, ap, ◌∙◌, subst, arith}
-use Rattle.std.proofs.lemmas.List.{length-take-le}
+use Rattle.std.proofs.Common.{◌≡◌, ℕ, ◌<◌, ◌≤◌, true, ltb, leb, List, ◌∷◌, length, get_or, sym, ap, ◌∙◌, subst, arith}
 use Rattle.std.proofs.lemmas.Bool.{and_parts, ltb-true, leb-true}
 use Rattle.model.specs.declared.rows.Row.{Row}
 use Rattle.model.specs.declared.rows.Item.{Item}
 use Rattle.model.specs.Blank.{blank_row}
 use Rattle.theory.specs.Machine.{Machine}
-use Rattle.theory.specs.Meeting.{Met, End as Ended, all, meet}
+use Rattle.theory.specs.Meeting.{Met, all, meet}
 use Rattle.inequality.specs.Marks.{Sided}
 use Rattle.inequality.proofs.Lists.{member_at}
 use Rattle.inequality.proofs.Meets.{meet_begun, meet_all}
 use Rattle.marking.specs.Steps.{Roomy}
 use Rattle.search.specs.declared.meeting.End.{End}
-use Rattle.search.specs.declared.meeting.End.TheVariants.{All, Wide, OutOfRows}
+use Rattle.search.specs.declared.meeting.End.TheVariants.{All}
 use Rattle.search.specs.declared.answer.Answer.{Answer}
 use Rattle.search.specs.declared.answer.Answer.TheVariants as answer
 use Rattle.search.specs.Ends.{end_of, met_by}

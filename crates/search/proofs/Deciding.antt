@@ -1,5 +1,5 @@
 -- From marks at rest to the answer.
-use Rattle.std.proofs.Common.{◌≡◌, ℕ, zero, suc, ◌+◌, ◌-◌, ◌<◌, ◌≤◌, Bool, true, false, cond, not, eqb, List, [], ◌∷◌, ◌++◌, map, length, get_or, take, drop, replicate, sym, refl, ap, ◌∙◌, subst, arith}
+use Rattle.std.proofs.Common.{◌≡◌, ℕ, ◌-◌, ◌<◌, false, not, eqb, List, [], ◌∷◌, ◌++◌, length, get_or, take, replicate, sym, refl, ap, ◌∙◌, subst, arith}
 use Rattle.std.proofs.lemmas.List.{length-take-le, take_at, get_or-map, get_or-take}
 use Rattle.std.proofs.lemmas.Bool.{eq-eqb, not_from_true}
 use Rattle.model.specs.declared.rows.Row.{Row}
@@ -8,13 +8,13 @@ use Rattle.model.specs.Blank.{blank_row, blank_item}
 use Rattle.theory.specs.Hedge.{nothing}
 use Rattle.theory.specs.Machine.{Machine}
 use Rattle.theory.specs.Items.{hedges, spelled, Earlier}
-use Rattle.inequality.specs.Fits.{Fits, Witness}
-use Rattle.inequality.specs.Marks.{Sided, Right, marks}
+use Rattle.inequality.specs.Fits.{Witness}
+use Rattle.inequality.specs.Marks.{Sided, marks}
 use Rattle.inequality.specs.Verdicts.{unmarked, excluded, table}
 use Rattle.inequality.proofs.Marking.{marks_right}
 use Rattle.inequality.proofs.Verdict.{right_unique, excluded_refuted}
-use Rattle.marking.specs.Marks.{SetAt, Had, LeftHad, Marked, flags, StillFrom}
-use Rattle.marking.specs.Steps.{Ready, Settled}
+use Rattle.marking.specs.Marks.{SetAt, Had, LeftHad, Marked, flags}
+use Rattle.marking.specs.Steps.{Settled}
 use Rattle.marking.proofs.Marked.{still_right}
 use Rattle.marking.proofs.Turns.{used_within}
 use Rattle.search.specs.Answered.{Shown, Refused}

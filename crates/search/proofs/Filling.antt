@@ -1,7 +1,7 @@
 -- Blanking from a number on, and keeping the unmarked ones of a list in place.
-use Rattle.std.proofs.Common.{◌≡◌, ℕ, zero, suc, ◌+◌, ◌-◌, ◌<◌, ◌≤◌, Bool, true, false, cond, not, eqb, List, [], ◌∷◌, ◌++◌, map, length, get_or, take, drop, set, replicate, sym, refl, ap, ◌∙◌, subst, ap₂, ⊎_elim, add-zero, add-one, arith}
-use Rattle.std.proofs.lemmas.List.{append-nil, append_assoc, take_all, take_more, take_more_set, replicate_more, length-take-le, length-map, length_push, map_more, drop-set-lt, get_or-drop, drop-drop, length-set, take-set-le, length-append, length-replicate, length-take}
-use Rattle.std.proofs.lemmas.Bool.{cases_lt, eq-eqb, ne_eqb, cond-true, cond-false, not_from_true, not_from_false}
+use Rattle.std.proofs.Common.{◌≡◌, ℕ, ◌+◌, ◌-◌, ◌<◌, ◌≤◌, Bool, true, false, cond, not, eqb, List, [], ◌∷◌, ◌++◌, length, get_or, take, drop, set, replicate, sym, refl, ap, ◌∙◌, ap₂, add-zero, arith}
+use Rattle.std.proofs.lemmas.List.{append-nil, append_assoc, take_all, take_more, take_more_set, replicate_more, length-take-le, length-map, map_more, drop-set-lt, get_or-drop, drop-drop, length-set, length-append, length-replicate, length-take}
+use Rattle.std.proofs.lemmas.Bool.{eq-eqb, ne_eqb, cond-true, cond-false, not_from_true, not_from_false}
 use Rattle.model.specs.declared.rows.Row.{Row}
 use Rattle.model.specs.Blank.{blank_row}
 use Rattle.inequality.specs.Verdicts.{unmarked}

@@ -1,12 +1,12 @@
 -- The sides of all either-ors, name by name and derivative by derivative.
-use Rattle.std.proofs.Common.{◌≡◌, ℕ, zero, suc, ◌^◌, ◌<◌, ◌≤◌, Bool, true, false, cond, List, [], ◌∷◌, ◌++◌, length, sym, refl, ap, ◌∙◌, ap₂, arith}
+use Rattle.std.proofs.Common.{◌≡◌, ℕ, zero, suc, ◌^◌, Bool, true, false, cond, List, [], ◌∷◌, ◌++◌, length, sym, refl, ap, ◌∙◌, ap₂}
 use Rattle.std.proofs.lemmas.Bool.{or_parts, cond-false}
 use Rattle.model.specs.declared.rows.Row.{Row}
 use Rattle.theory.specs.Machine.{Machine}
 use Rattle.theory.specs.Count.{each, some}
-use Rattle.theory.specs.Inequality.{Pair, EitherOr, derivative, derivative_count, pairs, either_or, either_ors, of_name, of_derivative}
+use Rattle.theory.specs.Inequality.{EitherOr, derivative, derivative_count, pairs, either_or, either_ors, of_name, of_derivative}
 use Rattle.theory.specs.Meeting.{sides_of, sides}
-use Rattle.sides.specs.Steps.{labelled_by, side_step, derivative_sides, derivative_step}
+use Rattle.sides.specs.Steps.{labelled_by, side_step, derivative_step}
 
 pub sides_append : (xs ys : List EitherOr) → sides_of (xs ++ ys) ≡ sides_of xs ++ sides_of ys
 sides_append [] ys = refl

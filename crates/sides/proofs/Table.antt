@@ -1,6 +1,6 @@
 -- Reading the table of covered names.
-use Rattle.std.proofs.Common.{◌≡◌, ℕ, ◌<◌, ◌≤◌, Bool, List, [], length, get_or, vec_items, vec_len, sym, ap, ◌∙◌, arith}
-use Rattle.std.proofs.lemmas.List.{get_or-map, get_or_past, length-map}
+use Rattle.std.proofs.Common.{◌≡◌, ℕ, ◌≤◌, [], length, get_or, vec_items, vec_len, sym, ◌∙◌, arith}
+use Rattle.std.proofs.lemmas.List.{get_or_past, length-map}
 use Rattle.sides.specs.declared.covers.Covers.{Covers}
 use Rattle.sides.specs.View.{table_of}
 

@@ -1,5 +1,5 @@
 -- What each turn of a loop over derivatives, states, names or subsets adds to a list.
-use Rattle.std.specs.Prelude.{ℕ, ◌^◌, Bool, true, false, cond, List, [], ◌∷◌, length}
+use Rattle.std.specs.Prelude.{ℕ, ◌^◌, Bool, cond, List, [], ◌∷◌, length}
 use Rattle.model.specs.declared.rows.Row.{Row}
 use Rattle.model.specs.Sets.{has}
 use Rattle.model.specs.Machine.{Derivative}

@@ -1,5 +1,5 @@
 -- What taking an inequality does.
-use Rattle.std.specs.Prelude.{◌≡◌, Bool, true, false}
+use Rattle.std.specs.Prelude.{◌≡◌, true, false}
 use Rattle.model.specs.declared.rows.Row.{Row}
 use Rattle.theory.specs.Machine.{Machine}
 use Rattle.theory.specs.Inequality.{same_row, wide}

@@ -1,5 +1,5 @@
 -- The steps of numbering states.
-use Rattle.std.proofs.Common.{◌≡◌, ℕ, ◌+◌, ◌*◌, ◌<◌, ◌≤◌, Bool, true, false, List, [], ◌∷◌, ◌++◌, map, length, get_or, replicate, IsErrAnd, Some, None, Ok, Err, vec_items, Option, Result, sym, refl, ap, ◌∙◌, subst, ap₂, ⊎_elim, arith}
+use Rattle.std.proofs.Common.{◌≡◌, ℕ, ◌+◌, ◌*◌, ◌<◌, ◌≤◌, Bool, List, [], ◌∷◌, ◌++◌, map, length, get_or, replicate, IsErrAnd, Some, None, Ok, Err, vec_items, Option, Result, sym, refl, ap, ◌∙◌, subst, ap₂, ⊎_elim, arith}
 use Rattle.std.proofs.lemmas.Result.{err_from_is_err_and}
 use Rattle.model.specs.declared.machine.Machine.{Machine}
 use Rattle.theory.specs.Tree.{body_of}
@@ -14,30 +14,28 @@ use Rattle.states.specs.Read.{Read}
 use Rattle.std.proofs.lemmas.List.{get_or-replicate, get_or_past, length-replicate, map_push, length_push, length-map}
 use Rattle.std.proofs.lemmas.Bool.{cases_lt}
 use Rattle.model.specs.declared.nodes.Node.{Node}
-use Rattle.model.specs.Machine.{Derivative, Plain, plain, no_state, states_of}
+use Rattle.model.specs.Machine.{Derivative, Plain, states_of}
 use Rattle.theory.specs.Count.{enter}
-use Rattle.theory.specs.Inequality.{Member, here, there}
-use Rattle.meaning.specs.Functions.{Derived}
+use Rattle.theory.specs.Inequality.{here}
 use Rattle.meaning.proofs.Members.{member_left, member_right}
 use Rattle.expressions.specs.Numbers.{tree, null_at}
 use Rattle.expressions.specs.Records.{place, same_number}
 use Rattle.expressions.specs.Fine.{Fine, Below, Grows, shown}
-use Rattle.expressions.specs.Derived.{part, as_trees, InBook, AllIn, ders_at}
-use Rattle.expressions.specs.States.{named, Separate, Extends, Stated, AllStated, total}
-use Rattle.expressions.proofs.Books.{place_le, enter_old, enter_new}
-use Rattle.expressions.proofs.Fine.{grows_same, grows_on, grows_long, grows_tree, below_more}
+use Rattle.expressions.specs.Derived.{part, as_trees, AllIn, ders_at}
+use Rattle.expressions.specs.States.{named, Separate, Extends, Stated, total}
+use Rattle.expressions.proofs.Books.{enter_old, enter_new}
+use Rattle.expressions.proofs.Fine.{grows_same, grows_on, grows_tree, below_more}
 use Rattle.expressions.proofs.Shown.{below_push, below_at}
 use Rattle.expressions.proofs.Ders.{all_none, all_append, all_one, all_part, part_none, bodies_grow}
-use Rattle.expressions.proofs.Standing.{extends_same, extends_on, extends_long, extends_at, Has, enter_has, named_stay, all_extends, part_push, stated_stays, all_stated_stays, all_stated_none, all_stated_more, total_more, map_map, mention_count, mention_at, mentions_separate, stands}
+use Rattle.expressions.proofs.Standing.{extends_same, extends_on, extends_long, extends_at, enter_has, named_stay, all_extends, part_push, all_stated_stays, all_stated_none, all_stated_more, total_more, map_map, mention_count, mention_at, stands}
 use Rattle.states.specs.declared.error.Limit.{Limit}
 use Rattle.states.specs.declared.nullable.Known.{Known}
-use Rattle.states.specs.declared.nullable.Known.TheVariants.{Unknown, No, Yes}
+use Rattle.states.specs.declared.nullable.Known.TheVariants.{Unknown}
 use Rattle.states.specs.declared.derive.Span.{Span}
-use Rattle.states.specs.declared.derive.Work.{Work}
 use Rattle.states.specs.declared.grammar.Rules.{Rules}
 use Rattle.states.specs.Book.{Entered}
 use Rattle.states.specs.Memo.{Says, Sound}
-use Rattle.states.specs.Derive.{Inside, told, Finds, Spans, IsEmpty, State}
+use Rattle.states.specs.Derive.{told, Finds, Spans, IsEmpty, State}
 use Rattle.states.specs.Build.{Named, Numbering, SoFar, Built}
 
 -- entering a number

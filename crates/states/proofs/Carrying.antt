@@ -1,13 +1,11 @@
 -- Carrying derivatives from lists into lists.
-use Rattle.std.proofs.Common.{◌≡◌, ℕ, suc, ◌+◌, ◌<◌, ◌≤◌, Bool, true, false, List, [], ◌∷◌, ◌++◌, map, length, get_or, drop, IfOk, Ok, Err, Result, sym, refl, ap, ◌∙◌, subst, ap₂, arith}
-use Rattle.std.proofs.lemmas.List.{append-nil, length-append, get_or_default}
+use Rattle.std.proofs.Common.{◌≡◌, ℕ, ◌+◌, ◌<◌, ◌≤◌, List, [], ◌∷◌, ◌++◌, map, length, get_or, IfOk, Ok, Result, sym, refl, ap, ◌∙◌, subst, ap₂, arith}
 use Rattle.model.specs.declared.nodes.Node.{Node}
 use Rattle.model.specs.declared.nodes.Node.TheVariants.{Seq}
 use Rattle.model.specs.Machine.{Derivative}
-use Rattle.theory.specs.Language.{Expr, empty}
+use Rattle.theory.specs.Language.{empty}
 use Rattle.theory.specs.Derivative.{join}
 use Rattle.theory.specs.Count.{enter, entered}
-use Rattle.theory.specs.Inequality.{Member, here, there}
 use Rattle.meaning.specs.Functions.{Derived, once, same_derived}
 use Rattle.meaning.specs.Functions as functions
 use Rattle.meaning.proofs.Members.{enter_map, entered_append, member_at}
@@ -17,12 +15,12 @@ use Rattle.expressions.specs.Fine.{Fine, Grows}
 use Rattle.expressions.specs.Derived.{part, as_trees, InBook, AllIn}
 use Rattle.expressions.proofs.Fine.{grows_same, grows_on, grows_tree, grows_long}
 use Rattle.expressions.proofs.Inject.{tree_once}
-use Rattle.expressions.proofs.Ders.{part_more, part_none, all_part, all_none, all_entered, all_grows, trees_grow, same_told, entered_trees, join_other}
+use Rattle.expressions.proofs.Ders.{part_more, part_none, all_part, all_entered, all_grows, trees_grow, same_told, entered_trees, join_other}
 use Rattle.states.specs.declared.error.Limit.{Limit}
 use Rattle.states.specs.declared.derive.Span.{Span}
 use Rattle.states.specs.Book.{Entered}
 use Rattle.states.specs.Read.{Numbered}
-use Rattle.states.specs.Derive.{Inside, told, Kept, IsEmpty, Carried, Carrying, InTurn}
+use Rattle.states.specs.Derive.{told, Kept, IsEmpty, Carried, Carrying, InTurn}
 use Rattle.states.proofs.Reading.{enter_made}
 
 -- joining

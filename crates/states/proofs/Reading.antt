@@ -1,14 +1,14 @@
 -- The steps of reading a file into a book.
 use Rattle.std.proofs.Common.{◌≡◌, ℕ, ◌+◌, ◌<◌, ◌≤◌, List, [], ◌∷◌, ◌++◌, map, length, get_or, take, IfOk, Ok, Err, Result, sym, refl, ap, ◌∙◌, subst, ap₂, arith}
-use Rattle.std.proofs.lemmas.List.{take_more, take_all, map_push, length_push}
+use Rattle.std.proofs.lemmas.List.{take_more, map_push}
 use Rattle.model.specs.declared.nodes.Node.{Node}
-use Rattle.model.specs.declared.nodes.Node.TheVariants.{Nothing, Empty, Simple, Rule, Element, Union, Seq, Star}
-use Rattle.theory.specs.Language.{Expr, none, empty, simple, rule, element, union, seq, star}
+use Rattle.model.specs.declared.nodes.Node.TheVariants.{Nothing, Rule, Element, Union, Seq, Star}
+use Rattle.theory.specs.Language.{Expr, none, rule, element, union, seq, star}
 use Rattle.theory.specs.Tree.{trees, of_node}
 use Rattle.expressions.specs.Numbers.{tree}
 use Rattle.expressions.specs.Records.{same_node}
 use Rattle.expressions.specs.Fine.{PartsBelow, make, Founded, Distinct, Fine, Below, Grows, shown}
-use Rattle.expressions.proofs.Fine.{enter_holds, holds_tree, grows_tree, grows_same, grows_on, grows_long, below_more, parts_more, make_grows}
+use Rattle.expressions.proofs.Fine.{enter_holds, holds_tree, grows_tree, grows_same, grows_on, grows_long, below_more}
 use Rattle.expressions.proofs.Shown.{below_none, below_push, below_at, shown_at, shown_past, shown_more, shown_grows, trees_more, each_more}
 use Rattle.states.specs.declared.error.Limit.{Limit}
 use Rattle.states.specs.Book.{Entered}

@@ -1,5 +1,5 @@
 -- The states of a grammar while they are numbered, and the outcome of building.
-use Rattle.std.specs.Prelude.{◌≡◌, ℕ, ◌<◌, ◌≤◌, List, map, length, get_or, Ok, Err, vec_items, Result}
+use Rattle.std.specs.Prelude.{◌≡◌, ℕ, ◌<◌, ◌≤◌, List, map, length, Ok, Err, vec_items, Result}
 use Rattle.model.specs.declared.nodes.Node.{Node}
 use Rattle.model.specs.declared.machine.State.{State}
 use Rattle.model.specs.declared.machine.Machine.{Machine}
@@ -15,7 +15,7 @@ use Rattle.states.specs.declared.error.BuildError.{BuildError}
 use Rattle.states.specs.declared.error.BuildError.TheVariants.{Recursion, TooLarge, NoMemory}
 use Rattle.states.specs.declared.derive.Work.{Work}
 use Rattle.states.specs.declared.grammar.Rules.{Rules}
-use Rattle.states.specs.Derive.{Right, Goes}
+use Rattle.states.specs.Derive.{Goes}
 
 -- derivatives by expressions were turned into derivatives by states, which were added where new
 pub record Named (old new : List ℕ) (ds by_states : List Derivative) : Type 0 where

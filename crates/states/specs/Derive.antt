@@ -1,8 +1,8 @@
 -- What is found of derivatives while a machine is built.
-use Rattle.std.specs.Prelude.{◌≡◌, ℕ, ◌+◌, ◌*◌, ◌<◌, ◌≤◌, List, [], ◌++◌, map, length, drop, Some, None, vec_items, Option, slice_index_or}
+use Rattle.std.specs.Prelude.{◌≡◌, ℕ, ◌+◌, ◌*◌, ◌<◌, ◌≤◌, List, ◌++◌, map, length, drop, Some, None, vec_items, Option, slice_index_or}
 use Rattle.model.specs.declared.nodes.Node.{Node}
 use Rattle.model.specs.Machine.{Derivative}
-use Rattle.theory.specs.Language.{Expr, empty}
+use Rattle.theory.specs.Language.{empty}
 use Rattle.theory.specs.Count.{entered}
 use Rattle.meaning.specs.Functions.{Derived, once, joined, same_derived}
 use Rattle.expressions.specs.Numbers.{tree}

@@ -1,9 +1,9 @@
 -- The expressions of a file in a book.
-use Rattle.std.specs.Prelude.{◌≡◌, ℕ, ◌<◌, List, [], ◌∷◌, map, length, get_or, vec_items, vec_len}
+use Rattle.std.specs.Prelude.{◌≡◌, ℕ, ◌<◌, List, [], ◌∷◌, length, vec_items, vec_len}
 use Rattle.model.specs.declared.nodes.Node.{Node}
-use Rattle.theory.specs.Language.{Expr, none, empty, rule}
+use Rattle.theory.specs.Language.{Expr, empty, rule}
 use Rattle.theory.specs.Count.{each}
-use Rattle.theory.specs.Tree.{trees, of_node, body_of}
+use Rattle.theory.specs.Tree.{body_of}
 use Rattle.expressions.specs.Numbers.{tree}
 use Rattle.expressions.specs.Fine.{PartsBelow, make, Fine, Below, Grows, shown}
 use Rattle.states.specs.declared.grammar.Grammar.{Grammar}

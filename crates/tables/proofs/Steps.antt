@@ -1,10 +1,8 @@
 -- The steps of the loops over spellings and mentions.
-use Rattle.std.proofs.Common.{◌≡◌, ℕ, ◌+◌, ◌<◌, ◌≤◌, Bool, true, false, cond, ◌||◌, ltb, List, map, length, get_or, drop, Ok, Err, Decides, sym, ap, ◌∙◌, Bor}
+use Rattle.std.proofs.Common.{◌≡◌, ℕ, ◌+◌, ◌<◌, ◌≤◌, Bool, false, cond, ◌||◌, List, map, length, get_or, drop, Ok, Err, ap, ◌∙◌, Bor}
 use Rattle.std.specs.Str.{bytes_eq}
-use Rattle.std.proofs.lemmas.Slice.Eq.{slice_eq-Decides, bytes_eq-Decides}
 use Rattle.std.proofs.lemmas.List.{at_drop_more, at_drop_all}
 use Rattle.std.proofs.lemmas.Bool.{lt-ltb, le-ltb}
-use Rattle.std.proofs.lemmas.Bool.Decides.{same_from_decides, Decides-eqb}
 use Rattle.text.specs.declared.fault.TableFault.TheVariants.{Place}
 use Rattle.tables.specs.declared.draft.Mention.{Mention}
 use Rattle.tables.specs.Checks.{has}

@@ -1,12 +1,11 @@
 -- How a line is judged: over the whole line first its form, then the room in its table, then its numbers, then its
 -- spelling, then the places of its numbers.
-use Rattle.std.specs.Prelude.{ℕ, Bool, cond, List, length, Ok, Err, Result, ◌==◌, nat_lt}
+use Rattle.std.specs.Prelude.{ℕ, List, length, Ok, Result, ◌==◌, nat_lt}
 use Rattle.text.specs.declared.fault.TableFault.{TableFault}
-use Rattle.text.specs.Fields.{View, key, spelling, number, value_in, spelling_in}
+use Rattle.text.specs.Fields.{key, spelling, number, value_in, spelling_in}
 use Rattle.text.specs.Cursors.{taken, others, ended, line_parts}
 use Rattle.tables.specs.declared.words.Key.{Key}
 use Rattle.tables.specs.declared.words.Key.TheVariants as keys
-use Rattle.tables.specs.declared.words.Shape.{Shape}
 use Rattle.tables.specs.declared.words.Arity.TheVariants.{One, Two}
 use Rattle.tables.specs.Chain.{then, lift}
 use Rattle.tables.specs.Words.{key_in, kind_in, version_in, shape_in, arity_of, node_of, allowed}

@@ -1,12 +1,11 @@
 -- How a text gives tables, line by line.
-use Rattle.std.specs.Prelude.{◌≡◌, ℕ, ◌+◌, Bool, true, false, cond, List, [], ◌∷◌, ◌++◌, length, Some, None, Ok, Err, Result, ◌==◌, nat_lt, slice_set}
+use Rattle.std.specs.Prelude.{◌≡◌, ℕ, ◌+◌, cond, List, [], ◌∷◌, ◌++◌, length, Some, None, Ok, Err, Result, ◌==◌, nat_lt, slice_set}
 use Rattle.model.specs.declared.names.Name.{Name}
 use Rattle.model.specs.declared.nodes.Node.{Node}
 use Rattle.model.specs.declared.nodes.Node.TheVariants as nodes
 use Rattle.text.specs.declared.fault.TableFault.{TableFault}
 use Rattle.text.specs.declared.fault.TableFault.TheVariants.{Place}
 use Rattle.text.specs.Pieces.{lines, whole_text}
-use Rattle.tables.specs.declared.words.Stage.{Stage}
 use Rattle.tables.specs.declared.words.Stage.TheVariants.{Start, Names, Unders, Nodes, Rules, Ended}
 use Rattle.tables.specs.declared.draft.Mention.{Mention}
 use Rattle.tables.specs.declared.table.Tables.{Tables}
@@ -14,7 +13,7 @@ use Rattle.tables.specs.declared.fault.ReadError.{ReadError}
 use Rattle.tables.specs.declared.fault.ReadError.TheVariants.{Fault, Memory}
 use Rattle.tables.specs.Chain.{then, lift}
 use Rattle.tables.specs.Words.{order}
-use Rattle.tables.specs.Checks.{form, place, kind_at}
+use Rattle.tables.specs.Checks.{form, kind_at}
 use Rattle.tables.specs.Plain.{Plain, Sketch, Fact, begin, name, under, node, rule, end, plain}
 use Rattle.tables.specs.Judge.{judged}
 

@@ -1,8 +1,8 @@
 -- The writing of lawful tables is read, and gives them.
-use Rattle.std.proofs.Common.{◌≡◌, ℕ, suc, ◌+◌, ◌-◌, ◌<◌, ◌≤◌, Bool, true, false, cond, not, ◌&&◌, ◌||◌, eqb, ltb, leb, ◌⊎◌, List, [], ◌∷◌, ◌++◌, map, length, get_or, IfOk, Some, None, Ok, Err, codes, Result, sym, refl, ap, ◌∙◌, subst, inl, inr, ⊎_elim, append_assoc, append-nil, arith}
+use Rattle.std.proofs.Common.{◌≡◌, ℕ, suc, ◌+◌, ◌-◌, ◌<◌, ◌≤◌, true, false, cond, ◌&&◌, ltb, leb, List, [], ◌∷◌, ◌++◌, map, length, get_or, IfOk, Ok, Err, codes, Result, sym, refl, ap, ◌∙◌, subst, ⊎_elim, append_assoc, append-nil, arith}
 use Rattle.std.specs.List.{AllByRecursion as All}
 use Rattle.std.specs.Str.{bytes_eq}
-use Rattle.std.proofs.ByRecursion.{All-append, All-weaker}
+use Rattle.std.proofs.ByRecursion.{All-append}
 use Rattle.std.proofs.lemmas.Slice.Eq.{bytes_eq-Decides}
 use Rattle.std.proofs.lemmas.List.{length_push, length-append, length-map, length-set, get_or_append_left, get_or-append_right, get_or_at}
 use Rattle.std.proofs.lemmas.Bool.{and_parts, and_from, or_cases, or_from, le-leb, lt-ltb, le-ltb, ltb-true, eq-eqb, ne_eqb, cases_Bool, true≢false, not_from_true}
@@ -22,12 +22,12 @@ use Rattle.tables.specs.declared.fault.ReadError.{ReadError}
 use Rattle.tables.specs.declared.fault.ReadError.TheVariants.{Fault, Memory}
 use Rattle.tables.specs.Chain.{then, lift}
 use Rattle.tables.specs.Words.{order}
-use Rattle.tables.specs.Checks.{has, may_head, may_stand}
+use Rattle.tables.specs.Checks.{has, may_stand}
 use Rattle.tables.specs.Plain.{Plain, Sketch, Fact, begin, name, under, node, rule, end, plain}
 use Rattle.tables.specs.Judge.{judged}
-use Rattle.tables.specs.Read.{headed, mentioned, entered, present, closed, read_lines, blank, read, answers}
+use Rattle.tables.specs.Read.{headed, mentioned, entered, present, read_lines, blank, read, answers}
 use Rattle.tables_law.specs.Lawful.{Apart, Lawful}
-use Rattle.tables_law.specs.Source.{Named, Under, Ruled, Source, name_text, under_text, node_text, rule_text, end_text, sections, text_of, headless, spelling_of, rule_spelling, body_of, with_heads, GivenHeads, grown, no_tables, tables_of, Writes, Gives, Accepts}
+use Rattle.tables_law.specs.Source.{Named, Under, Ruled, Source, name_text, under_text, node_text, rule_text, end_text, sections, text_of, headless, spelling_of, rule_spelling, body_of, with_heads, GivenHeads, grown, tables_of, Writes, Gives, Accepts}
 use Rattle.text_law.proofs.Cases.{same_ok, no_ok}
 use Rattle.tables_law.proofs.Places.{may_parts}
 use Rattle.tables_law.proofs.Sound.{grown_name, grown_under, grown_node, grown_rule, grown_none, read_writes}

@@ -1,5 +1,5 @@
 -- A line that is written of a lawful entry is accepted and gives that entry.
-use Rattle.std.proofs.Common.{◌≡◌, ℕ, ◌+◌, ◌<◌, ◌≤◌, Bool, true, false, cond, not, ◌&&◌, eqb, ltb, leb, ◌⊎◌, List, [], ◌∷◌, ◌++◌, map, length, Some, None, Ok, Err, codes, decimal, Result, sym, refl, ap, ◌∙◌, subst, inl, inr, ⊎_elim, arith}
+use Rattle.std.proofs.Common.{◌≡◌, ℕ, ◌<◌, true, false, cond, not, eqb, ltb, List, [], ◌∷◌, ◌++◌, length, Ok, Err, codes, decimal, Result, refl, ap, ◌∙◌}
 use Rattle.std.specs.List.{AllByRecursion as All}
 use Rattle.std.proofs.lemmas.Bool.{and_parts, and_from, lt-ltb, eq-eqb}
 use Rattle.model.specs.declared.names.Kind.{Kind}
@@ -11,22 +11,21 @@ use Rattle.text.specs.declared.fault.LineFault.TheVariants.{Spelling as BadSpell
 use Rattle.text.specs.declared.fault.TableFault.{TableFault}
 use Rattle.text.specs.declared.fault.TableFault.TheVariants.{Full}
 use Rattle.text.specs.declared.form.Class.TheVariants.{Further}
-use Rattle.text.specs.Fields.{View, key, number, spelling, value_in, or_number, spelling_in}
-use Rattle.text.specs.Forms.{number_of, is_spelling}
+use Rattle.text.specs.Fields.{key, number, spelling, value_in, or_number, spelling_in}
+use Rattle.text.specs.Forms.{is_spelling}
 use Rattle.text.specs.Cursors.{line_parts}
-use Rattle.text_law.specs.Writing.{written, commas, keyed, lacks}
+use Rattle.text_law.specs.Writing.{commas, keyed, lacks}
 use Rattle.text_law.proofs.Cut.{parts_keyed, lacks_all}
 use Rattle.text_law.proofs.Number.{number_decimal, lacks_decimal}
 use Rattle.tables.specs.declared.words.Key.{Key}
 use Rattle.tables.specs.declared.words.Key.TheVariants as keys
-use Rattle.tables.specs.declared.words.Arity.TheVariants as arity
 use Rattle.tables.specs.Chain.{then, lift}
-use Rattle.tables.specs.Words.{key_in, kind_in, shape_in, allowed, node_of, kind_word, key_word}
+use Rattle.tables.specs.Words.{key_in, kind_in, allowed, kind_word, key_word}
 use Rattle.tables.specs.Args.{Numbers, none, one, two, values_in}
-use Rattle.tables.specs.Checks.{form, room, place, has, fresh, may_head, may_stand}
-use Rattle.tables.specs.Plain.{Plain, Sketch, Fact, begin, name, under, node, rule, end}
-use Rattle.tables.specs.Judge.{judged, keyed_line, name_line, under_line, node_line, rule_line, end_line}
-use Rattle.tables_law.specs.Source.{Named, Under, Ruled, name_text, under_text, node_fields, node_text, rule_text, end_text}
+use Rattle.tables.specs.Checks.{form, room, place, has, may_head, may_stand}
+use Rattle.tables.specs.Plain.{Sketch, Fact, begin, name, under, node, rule, end}
+use Rattle.tables.specs.Judge.{judged, keyed_line}
+use Rattle.tables_law.specs.Source.{Named, Under, Ruled, name_text, under_text, node_text, rule_text, end_text}
 
 -- a field has no comma and no LF
 abbrev pub Clean : List ℕ → Type 0

@@ -1,14 +1,13 @@
 -- What the tables keep while they are read, and so what read tables are.
-use Rattle.std.proofs.Common.{◌≡◌, ℕ, ◌+◌, ◌<◌, ◌≤◌, Bool, true, false, cond, ◌&&◌, eqb, ltb, leb, ◌⊎◌, List, [], ◌∷◌, ◌++◌, map, length, get_or, IfOk, Some, None, Ok, Err, Result, sym, refl, ap, ◌∙◌, subst, inl, inr, ⊎_elim, arith}
+use Rattle.std.proofs.Common.{◌≡◌, ℕ, ◌+◌, ◌<◌, ◌≤◌, true, false, ◌&&◌, eqb, ltb, leb, List, [], ◌∷◌, ◌++◌, map, length, get_or, IfOk, Some, None, Ok, Err, Result, sym, refl, ap, ◌∙◌, subst, ⊎_elim, arith}
 use Rattle.std.specs.List.{ContainsAt as Has, AllByRecursion as All}
 use Rattle.std.proofs.ByRecursion.{All-push, All-weaker, all-has, All-map, has_append_left, has_push}
 use Rattle.std.proofs.lemmas.List.{length_push, length-set, get_or_push, get_or_append_left, map_push, map-append}
-use Rattle.std.proofs.lemmas.Bool.{and_parts, leb-true, ltb-true, eqb-true}
+use Rattle.std.proofs.lemmas.Bool.{and_parts, leb-true, eqb-true}
 use Rattle.model.specs.declared.names.Kind.{Kind}
 use Rattle.model.specs.declared.names.Name.{Name}
 use Rattle.model.specs.declared.nodes.Node.{Node}
-use Rattle.model.specs.declared.nodes.Node.TheVariants.{Nothing, Empty, Simple, Rule, Element, Union, Seq, Star}
-use Rattle.text.specs.declared.fault.TableFault.{TableFault}
+use Rattle.model.specs.declared.nodes.Node.TheVariants.{Nothing, Rule}
 use Rattle.text.specs.Forms.{is_spelling}
 use Rattle.text.specs.Pieces.{lines, whole_text}
 use Rattle.tables.specs.declared.table.Tables.{Tables}
@@ -16,13 +15,11 @@ use Rattle.tables.specs.declared.fault.ReadError.{ReadError}
 use Rattle.tables.specs.declared.draft.Mention.{Mention}
 use Rattle.tables.specs.declared.words.Key.{Key}
 use Rattle.tables.specs.declared.words.Key.TheVariants as keys
-use Rattle.tables.specs.declared.words.Stage.{Stage}
-use Rattle.tables.specs.Chain.{then, lift}
-use Rattle.tables.specs.Words.{order, allowed, later, node_of}
+use Rattle.tables.specs.Words.{order, allowed, node_of}
 use Rattle.tables.specs.Checks.{form, has, kind_at, may_head, may_stand}
 use Rattle.tables.specs.Plain.{Plain, Sketch, Fact, begin, name, under, node, rule, end, plain}
 use Rattle.tables.specs.Judge.{judged, keyed_line}
-use Rattle.tables.specs.Read.{headed, mentioned, entered, present, closed, read_lines, blank, read, answers}
+use Rattle.tables.specs.Read.{mentioned, entered, present, closed, read_lines, blank, read, answers}
 use Rattle.tables_law.specs.Lawful.{Apart, Headed, Standing, Lawful}
 use Rattle.text_law.proofs.Cases.{same_ok}
 use Rattle.tables_law.proofs.Chains.{then_ok, lifted}

@@ -1,6 +1,6 @@
 -- What one entry more keeps, place by place.
-use Rattle.std.proofs.Common.{◌≡◌, ℕ, zero, suc, ◌+◌, ◌<◌, ◌≤◌, Bool, true, false, cond, not, ◌&&◌, ◌||◌, ltb, ◌≢◌, ◌⊎◌, List, [], ◌∷◌, ◌++◌, map, length, get_or, set, Some, None, Ok, Err, Option, Result, sym, refl, ap, ◌∙◌, subst, inl, inr, ⊎_elim, arith}
-use Rattle.std.specs.List.{ContainsAt as Has, AllByRecursion as All}
+use Rattle.std.proofs.Common.{◌≡◌, ℕ, zero, suc, ◌<◌, Bool, true, false, cond, ltb, ◌⊎◌, List, [], ◌∷◌, ◌++◌, length, get_or, Some, None, Ok, Err, sym, refl, ap, ◌∙◌, inl, inr, ⊎_elim, arith}
+use Rattle.std.specs.List.{AllByRecursion as All}
 use Rattle.std.specs.Str.{bytes_eq}
 use Rattle.std.proofs.lemmas.Slice.Eq.{bytes_eq-Decides}
 use Rattle.std.proofs.lemmas.List.{length_push, length-set, get_or_push, get_or_append_left, get_or-set_same, get_or-set_other}
@@ -9,8 +9,7 @@ use Rattle.model.specs.declared.names.Kind.{Kind}
 use Rattle.model.specs.declared.names.Kind.TheVariants as kinds
 use Rattle.model.specs.declared.names.Name.{Name}
 use Rattle.model.specs.declared.nodes.Node.{Node}
-use Rattle.model.specs.declared.nodes.Node.TheVariants.{Nothing, Rule}
-use Rattle.text.specs.declared.fault.TableFault.{TableFault}
+use Rattle.model.specs.declared.nodes.Node.TheVariants.{Nothing}
 use Rattle.text.specs.declared.fault.TableFault.TheVariants.{Place}
 use Rattle.tables.specs.declared.draft.Mention.{Mention}
 use Rattle.tables.specs.Checks.{has, same_kind, no_name, kind_at, may_head, may_stand}

@@ -1,12 +1,10 @@
 -- What an accepted line says, by its key.
-use Rattle.std.proofs.Common.{◌≡◌, ℕ, ◌<◌, Bool, true, false, cond, eqb, ltb, ◌⊎◌, List, [], ◌∷◌, length, Some, None, Ok, Err, codes, Option, Result, sym, refl, ap, ◌∙◌, inl, inr, ⊎_elim}
+use Rattle.std.proofs.Common.{◌≡◌, ℕ, ◌<◌, true, false, cond, eqb, ltb, List, [], ◌∷◌, length, Some, None, Ok, codes, Option, Result, sym, refl, ap, ◌∙◌, ⊎_elim}
 use Rattle.std.specs.Str.{bytes_eq}
 use Rattle.std.proofs.lemmas.Slice.Eq.{bytes_eq-Decides}
 use Rattle.std.proofs.lemmas.Bool.{ltb-true, eqb-true}
 use Rattle.model.specs.declared.names.Kind.{Kind}
 use Rattle.model.specs.declared.names.Kind.TheVariants as kinds
-use Rattle.model.specs.declared.nodes.Node.{Node}
-use Rattle.text.specs.declared.fault.LineFault.{LineFault}
 use Rattle.text.specs.Fields.{View, key, number, spelling, value_in, or_number, spelling_in}
 use Rattle.text.specs.Forms.{number_of, is_spelling}
 use Rattle.tables.specs.declared.words.Key.{Key}
@@ -15,14 +13,13 @@ use Rattle.tables.specs.declared.words.Shape.{Shape}
 use Rattle.tables.specs.declared.words.Shape.TheVariants as shapes
 use Rattle.tables.specs.declared.words.Arity.{Arity}
 use Rattle.tables.specs.declared.words.Arity.TheVariants as arity
-use Rattle.tables.specs.Chain.{then, lift}
 use Rattle.tables.specs.Words.{key_in, kind_in, version_in, shape_in, arity_of, node_of, allowed, kind_word, key_word, shape_word}
-use Rattle.tables.specs.Args.{Numbers, none, one, two, numbers_in, values_in}
+use Rattle.tables.specs.Args.{Numbers, one, two, numbers_in, values_in}
 use Rattle.text.specs.Cursors.{line_parts}
 use Rattle.tables.specs.Checks.{form, has, may_head, may_stand, room, place, fresh}
 use Rattle.tables.specs.Plain.{Plain, Sketch, Fact, begin, name, under, node, rule, end}
 use Rattle.tables.specs.Judge.{begin_line, name_line, under_line, node_line, rule_line, end_line, keyed_line, judged}
-use Rattle.text_law.proofs.Cases.{no_ok, same_ok, same_some}
+use Rattle.text_law.proofs.Cases.{no_ok, same_ok}
 use Rattle.tables_law.proofs.Chains.{then_ok, lifted, holds_ok, fails_ok, word_ok}
 
 -- a number field that has a value

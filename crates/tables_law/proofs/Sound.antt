@@ -1,14 +1,12 @@
 -- A text that is read is the writing of what is read.
-use Rattle.std.proofs.Common.{◌≡◌, ℕ, zero, suc, ◌+◌, ◌<◌, ◌≤◌, Bool, true, false, cond, ◌&&◌, eqb, ltb, leb, ◌⊎◌, List, [], ◌∷◌, ◌++◌, map, length, get_or, Some, None, Ok, Err, codes, decimal, Result, sym, refl, ap, ◌∙◌, subst, inl, inr, ⊎_elim, append_assoc, append-nil, arith}
+use Rattle.std.proofs.Common.{◌≡◌, ℕ, ◌+◌, ◌<◌, ◌≤◌, true, ◌&&◌, eqb, ltb, leb, List, [], ◌∷◌, ◌++◌, map, length, Ok, codes, decimal, sym, refl, ap, ◌∙◌, subst, append_assoc, append-nil, arith}
 use Rattle.std.proofs.lemmas.List.{length_push}
 use Rattle.std.proofs.lemmas.Bool.{and_parts, leb-true, ltb-true, eqb-true, true≢false}
-use Rattle.model.specs.declared.names.Kind.{Kind}
 use Rattle.model.specs.declared.names.Name.{Name}
 use Rattle.model.specs.declared.nodes.Node.{Node}
 use Rattle.text.specs.Pieces.{lines, whole_text, before}
-use Rattle.text.specs.Fields.{View, key}
+use Rattle.text.specs.Fields.{View}
 use Rattle.text.specs.Cursors.{line_parts}
-use Rattle.text.specs.Forms.{number_of}
 use Rattle.text_law.specs.Writing.{written, keyed}
 use Rattle.text_law.proofs.Cut.{parts_said, written_lines, whole_said}
 use Rattle.text_law.proofs.Number.{decimal_said}
@@ -19,14 +17,12 @@ use Rattle.tables.specs.declared.words.Shape.TheVariants as shapes
 use Rattle.tables.specs.declared.words.Arity.TheVariants as arity
 use Rattle.tables.specs.declared.words.Stage.{Stage}
 use Rattle.tables.specs.declared.words.Stage.TheVariants as stages
-use Rattle.tables.specs.Chain.{then, lift}
-use Rattle.tables.specs.Words.{order, allowed, later, key_in, arity_of, node_of, kind_word, key_word, shape_word}
+use Rattle.tables.specs.Words.{order, allowed, key_in, arity_of, node_of, key_word, shape_word}
 use Rattle.tables.specs.Checks.{form, may_head}
 use Rattle.tables.specs.Plain.{Plain, Sketch, Fact, begin, name, under, node, rule, end}
 use Rattle.tables.specs.Judge.{judged, keyed_line}
 use Rattle.tables.specs.Read.{headed, entered, present, closed, read_lines, blank, read}
-use Rattle.tables_law.specs.Lawful.{Lawful}
-use Rattle.tables_law.specs.Source.{Named, Under, Ruled, Source, name_text, under_text, node_fields, node_text, rule_text, end_text, sections, text_of, headless, spelling_of, rule_spelling, body_of, with_heads, GivenHeads, lines_from, grown, no_tables, tables_of, Writes}
+use Rattle.tables_law.specs.Source.{Named, Under, Ruled, Source, name_text, under_text, node_fields, node_text, rule_text, end_text, sections, headless, spelling_of, rule_spelling, body_of, with_heads, GivenHeads, lines_from, grown, no_tables, tables_of, Writes}
 use Rattle.text_law.proofs.Cases.{same_ok, no_ok}
 use Rattle.tables_law.proofs.Chains.{then_ok, lifted, holds_ok}
 use Rattle.tables_law.proofs.Said.{Numbered, key_said, begin_said, name_said, under_said, node_said, rule_said, end_said, judged_said}

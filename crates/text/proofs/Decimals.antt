@@ -1,9 +1,9 @@
 -- The size of a number that is written in few digits.
-use Rattle.std.proofs.Common.{◌≡◌, ℕ, ◌+◌, ◌-◌, ◌*◌, ◌^◌, ◌<◌, ◌≤◌, Bool, true, false, ◌&&◌, List, length, get_or, drop, sym, ap, ◌∙◌, pow-suc, add-one, arith}
+use Rattle.std.proofs.Common.{◌≡◌, ℕ, ◌+◌, ◌*◌, ◌^◌, ◌<◌, ◌≤◌, true, ◌&&◌, List, length, get_or, drop, sym, ◌∙◌, pow-suc, add-one, arith}
 use Rattle.std.proofs.lemmas.List.{at_drop_more, at_drop_all}
 use Rattle.std.proofs.lemmas.Bool.{and_parts, leb-true}
 use Rattle.text.specs.declared.form.Class.{Class}
-use Rattle.text.specs.Forms.{belongs, all_of, decimal_after}
+use Rattle.text.specs.Forms.{belongs, all_of}
 use Rattle.text.specs.declared.form.Class.TheVariants.{Digit}
 
 -- one more digit

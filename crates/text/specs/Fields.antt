@@ -1,8 +1,8 @@
 -- Fields as a line has them, without the references that the code holds.
-use Rattle.std.specs.Prelude.{ℕ, Bool, true, false, cond, List, [], ◌∷◌, Some, None, Ok, Err, Option, Result}
+use Rattle.std.specs.Prelude.{ℕ, Bool, false, cond, List, Some, None, Ok, Err, Option, Result}
 use Rattle.std.specs.Str.{bytes_eq}
 use Rattle.text.specs.declared.fault.LineFault.{LineFault}
-use Rattle.text.specs.declared.fault.LineFault.TheVariants.{Form, Number as bad_number, Spelling as bad_spelling}
+use Rattle.text.specs.declared.fault.LineFault.TheVariants.{Number as bad_number, Spelling as bad_spelling}
 use Rattle.text.specs.declared.field.Field.{Field}
 use Rattle.text.specs.declared.field.Field.TheVariants.{Key, Number, Spelling}
 use Rattle.text.specs.Forms.{number_of, is_spelling}

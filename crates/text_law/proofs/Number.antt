@@ -1,13 +1,12 @@
 -- Numbers as they are written.
-use Rattle.std.proofs.Common.{◌≡◌, ℕ, ◌+◌, ◌-◌, ◌*◌, ◌^◌, ◌<◌, ◌≤◌, Bool, true, false, cond, not, ◌&&◌, ◌||◌, eqb, leb, List, [], ◌∷◌, ◌++◌, length, get_or, Some, None, decimal, Option, sym, refl, ap, ◌∙◌, ⊎_elim, arith, rules}
-use Rattle.std.specs.Int.{IsInRange}
-use Rattle.std.proofs.lemmas.Str.Parse.{IsNumeralModel, IsDigitsTest, FoldsDigits, numerals_by_fold, digits_value_short}
+use Rattle.std.proofs.Common.{◌≡◌, ℕ, ◌^◌, ◌<◌, ◌≤◌, Bool, true, false, cond, not, ◌||◌, eqb, List, length, get_or, Some, None, decimal, sym, refl, ap, ◌∙◌, ⊎_elim, arith, rules}
+use Rattle.std.proofs.lemmas.Str.Parse.{IsNumeralModel, numerals_by_fold, digits_value_short}
 use Rattle.std.proofs.lemmas.Fmt.{digits_decimal, digits_value-decimal, decimal-digits_value, decimal_nonempty, length-decimal-le, first_decimal, decimal_digit}
 use Rattle.std.proofs.lemmas.Bool.{and_parts, and_from, le-leb, leb-true, or_cases, eqb-true, eq-eqb, ne_eqb, or_left, or_right, not-true, not_from_false, eqb-false, cases_eq}
 use Rattle.text_law.specs.Writing.{lacks}
 use Rattle.text_law.proofs.Cases.{no_some, same_some}
 use Rattle.text_law.proofs.Cut.{lacks_all}
-use Rattle.text.specs.Forms.{between, digit, all_of, decimal_after, is_number, number_of}
+use Rattle.text.specs.Forms.{digit, all_of, decimal_after, is_number, number_of}
 use Rattle.text.specs.declared.form.Class.TheVariants.{Digit}
 
 abbrev Digital : List ℕ → Type 0

@@ -1,5 +1,5 @@
 -- Lists and tests over the numbers below a bound, and lists without repeats.
-use Rattle.std.specs.Prelude.{ℕ, zero, suc, Bool, true, false, cond, ◌||◌, List, [], ◌∷◌, ◌++◌}
+use Rattle.std.specs.Prelude.{ℕ, zero, suc, Bool, false, cond, ◌||◌, List, [], ◌∷◌, ◌++◌}
 
 -- f 0, then f 1, and so on up to f (n - 1)
 abbrev pub each : {A : Type 0} → ℕ → (ℕ → List A) → List A

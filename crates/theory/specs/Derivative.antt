@@ -1,8 +1,7 @@
 -- Nullability and derivatives of expressions, as least relations: they follow a mention of a rule
 -- into its body.
-use Rattle.std.specs.Prelude.{ℕ, Bool, true, ◌≡◌}
-use Rattle.theory.specs.Hedge.{Hedge, nothing, item}
-use Rattle.theory.specs.Language.{Expr, none, empty, simple, rule, element, union, seq, star, In}
+use Rattle.std.specs.Prelude.{ℕ, ◌≡◌}
+use Rattle.theory.specs.Language.{Expr, none, empty, simple, rule, element, union, seq, star}
 
 -- To join s to a rest: `empty` vanishes, any other rest is followed by s.
 abbrev pub join : Expr → Expr → Expr

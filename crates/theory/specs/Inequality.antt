@@ -1,6 +1,6 @@
 -- Inequalities: a left state against a set of right states, held in a row. An inequality holds when
 -- each hedge of the left state is a hedge of some state on the right.
-use Rattle.std.specs.Prelude.{ℕ, zero, suc, ◌/◌, ◌%◌, ◌^◌, Bool, true, false, cond, not, ◌&&◌, ◌||◌, ◌≡◌, List, [], ◌∷◌, length, get_or, eqb, ltb}
+use Rattle.std.specs.Prelude.{ℕ, zero, suc, ◌/◌, ◌%◌, ◌^◌, Bool, true, false, cond, not, ◌&&◌, ◌≡◌, List, [], ◌∷◌, length, get_or, eqb, ltb}
 use Rattle.model.specs.declared.rows.Row.{Row}
 use Rattle.model.specs.Sets.{has, insert}
 use Rattle.model.specs.Machine.{Derivative, nullable_at, derivatives_at}

@@ -1,6 +1,6 @@
 -- Hedges spelled by items. Items are numbered from 1; an item names the item that begins what is
 -- inside it and the one that follows it, both earlier, and 0 stands for the empty hedge.
-use Rattle.std.specs.Prelude.{ℕ, suc, ◌<◌, ◌≤◌, List, [], ◌∷◌, ◌++◌, length, get_or}
+use Rattle.std.specs.Prelude.{ℕ, ◌<◌, ◌≤◌, List, [], ◌∷◌, ◌++◌, length, get_or}
 use Rattle.model.specs.declared.rows.Item.{Item}
 use Rattle.model.specs.Blank.{blank_item}
 use Rattle.theory.specs.Hedge.{Hedge, nothing, item}

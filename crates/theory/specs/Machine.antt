@@ -1,5 +1,5 @@
 -- The state machine of a grammar under a name relation, and which hedges a state has.
-use Rattle.std.specs.Prelude.{ℕ, Bool, true, false, ◌&&◌, List}
+use Rattle.std.specs.Prelude.{ℕ, Bool, ◌&&◌, List}
 use Rattle.model.specs.Machine.{Derivative, Plain, nullable_at, derivatives_at}
 use Rattle.theory.specs.Hedge.{Hedge, nothing, item}
 use Rattle.theory.specs.Count.{any}

@@ -1,11 +1,11 @@
 -- The breadth-first meeting of the inequalities that are reachable from a root, within a number of
 -- rows.
-use Rattle.std.specs.Prelude.{ℕ, zero, suc, ◌+◌, Bool, true, false, cond, List, [], ◌∷◌, ◌++◌, length, get_or, take, leb, ltb}
+use Rattle.std.specs.Prelude.{ℕ, zero, suc, ◌+◌, true, false, List, [], ◌∷◌, length, get_or, take, leb, ltb}
 use Rattle.model.specs.declared.rows.Row.{Row}
 use Rattle.model.specs.Blank.{blank_row}
-use Rattle.theory.specs.Count.{each, entered}
+use Rattle.theory.specs.Count.{entered}
 use Rattle.theory.specs.Machine.{Machine}
-use Rattle.theory.specs.Inequality.{row, same_row, wide, EitherOr, either_ors}
+use Rattle.theory.specs.Inequality.{same_row, wide, EitherOr, either_ors}
 
 -- the sides of either-ors in order, content side first
 abbrev pub sides_of : List EitherOr → List Row

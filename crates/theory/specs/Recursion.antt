@@ -1,6 +1,6 @@
 -- Lawful recursion of a grammar's rules.
 use Rattle.std.specs.Prelude.{ℕ, ◌<◌, Bool, true, false, ◌≡◌, ◌⊎◌}
-use Rattle.theory.specs.Language.{Expr, none, empty, simple, rule, element, union, seq, star}
+use Rattle.theory.specs.Language.{Expr, rule, union, seq, star}
 use Rattle.theory.specs.Derivative.{Null}
 
 -- `Mentions bodies e k straight guarded`: a way from e to a mention of rule k outside brackets (no

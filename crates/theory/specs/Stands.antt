@@ -1,5 +1,5 @@
 -- States stand for expressions.
-use Rattle.std.specs.Prelude.{ℕ, ◌<◌, Bool, true, ◌≡◌, List, length, get_or}
+use Rattle.std.specs.Prelude.{ℕ, ◌<◌, true, ◌≡◌, List, length, get_or}
 use Rattle.model.specs.Machine.{Derivative, Plain, nullable_at, derivatives_at}
 use Rattle.theory.specs.Language.{Expr, none, rule}
 use Rattle.theory.specs.Derivative.{Null, Der}

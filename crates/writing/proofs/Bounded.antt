@@ -1,5 +1,5 @@
 -- A sheet that is written is not too long to be counted, and all its records have places.
-use Rattle.std.proofs.Common.{◌≡◌, ℕ, zero, suc, ◌+◌, ◌-◌, ◌*◌, ◌/◌, ◌%◌, ◌^◌, ◌<◌, ◌≤◌, Bool, true, false, cond, ◌&&◌, ◌||◌, eqb, ltb, leb, List, [], ◌∷◌, ◌++◌, map, length, take, Ok, Err, codes, decimal, Result, sym, refl, ap, ◌∙◌, subst, arith}
+use Rattle.std.proofs.Common.{◌≡◌, ℕ, zero, suc, ◌+◌, ◌*◌, ◌/◌, ◌%◌, ◌^◌, ◌<◌, ◌≤◌, Bool, true, false, cond, ◌&&◌, eqb, leb, List, [], ◌∷◌, map, length, take, Ok, Err, codes, decimal, refl, ap, ◌∙◌, arith}
 use Rattle.std.specs.Fmt.{digits, digits_onto, digit_glyph}
 use Rattle.std.specs.List.{AllByRecursion as All}
 use Rattle.std.proofs.lemmas.List.{length-append, length-take-le}
@@ -8,7 +8,6 @@ use Rattle.model.specs.declared.names.Name.{Name}
 use Rattle.model.specs.declared.rows.Row.{Row}
 use Rattle.model.specs.declared.rows.Item.{Item}
 use Rattle.model.specs.Sets.{has}
-use Rattle.records.specs.declared.fault.CallFault.{CallFault}
 use Rattle.records.specs.declared.fault.CallFault.TheVariants.{Output}
 use Rattle.records.specs.declared.sheet.Verdict.{Verdict}
 use Rattle.records.specs.declared.sheet.Verdict.TheVariants.{Included, Excluded}
@@ -17,7 +16,7 @@ use Rattle.records.specs.Chains.{then, misplaced}
 use Rattle.records.specs.Places.{item_fits}
 use Rattle.records.specs.Reading.{counted}
 use Rattle.records.proofs.Chained.{then_ok, cond_ok}
-use Rattle.writing.specs.Texts.{further, line_text, members, row_text, item_text, all_texts, records_text, verdict_line, pair_text, end_text, sheet_text, Enough}
+use Rattle.writing.specs.Texts.{further, members, row_text, item_text, all_texts, records_text, sheet_text, Enough}
 use Rattle.writing.specs.Checks.{row_fits, places_checked, records_checked, pair_checked, sheet_checked, sheet_written}
 use Rattle.writing.proofs.Spelled.{members_suc, members_zero, line_length, two_length, one_length, sheet_length, verdict_length}
 

@@ -1,8 +1,8 @@
 -- How the texts of records are made of their parts.
-use Rattle.std.proofs.Common.{◌≡◌, ℕ, zero, suc, ◌+◌, ◌-◌, ◌*◌, ◌^◌, ◌<◌, ◌≤◌, Bool, true, false, cond, List, [], ◌∷◌, ◌++◌, map, length, codes, decimal, sym, refl, ap, ◌∙◌, subst, arith}
+use Rattle.std.proofs.Common.{◌≡◌, ℕ, suc, ◌+◌, ◌-◌, ◌<◌, ◌≤◌, Bool, true, false, cond, List, [], ◌∷◌, ◌++◌, map, length, codes, decimal, sym, refl, ap, ◌∙◌, arith}
 use Rattle.std.proofs.lemmas.List.{length-append, append_assoc}
 use Rattle.model.specs.Sets.{has}
-use Rattle.writing.specs.Texts.{further, line_text, members, state_text, states_text, item_text, verdict_line, pair_text, end_text, records_text, sheet_text}
+use Rattle.writing.specs.Texts.{further, line_text, members, state_text, item_text, verdict_line, pair_text, end_text, records_text, sheet_text}
 use Rattle.model.specs.declared.rows.Row.{Row}
 use Rattle.records.specs.declared.sheet.Sheet.{Sheet}
 use Rattle.records.specs.declared.sheet.Verdict.{Verdict}

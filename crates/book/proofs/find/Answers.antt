@@ -1,4 +1,4 @@
-use Rattle.std.proofs.Common.{◌<◌, ◌≤◌, min, length, sym, ◌∙◌, arith}
+use Rattle.std.proofs.Common.{◌≤◌, min, length, sym, ◌∙◌, arith}
 use Rattle.book.proofs.Seek.{seek_here, seek_next, seek_end}
 use Rattle.book.proofs.find.Goals as goal
 

@@ -1,4 +1,4 @@
-use Rattle.std.proofs.Common.{◌≡◌, length, sym, ap, ◌∙◌, arith}
+use Rattle.std.proofs.Common.{◌≡◌, length, ap, ◌∙◌, arith}
 use Rattle.model.specs.Machine.{states_of, nullable_at}
 use Rattle.meaning.specs.Tables.{gather, nullable_set}
 use Rattle.member.proofs.Gather.{gather_with, gather_same}

@@ -1,7 +1,6 @@
 use Rattle.std.proofs.Common.{◌≡◌, ◌+◌, ◌<◌, List, length, get_or, take, sym, refl, ap, ◌∙◌, ap₂, arith}
 use Rattle.std.proofs.lemmas.List.{take_all, length-set}
 use Rattle.model.specs.declared.rows.Item.{Item}
-use Rattle.model.specs.Machine.{states_of}
 use Rattle.model.specs.Blank.{blank_item}
 use Rattle.theory.specs.Machine.{Machine}
 use Rattle.meaning.specs.Tables.{gather, takes, item_set, state_sets}

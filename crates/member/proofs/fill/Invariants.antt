@@ -1,4 +1,4 @@
-use Rattle.std.proofs.Common.{◌≡◌, ◌+◌, length, get_or, take}
+use Rattle.std.proofs.Common.{◌≡◌, ◌+◌, get_or, take}
 use Rattle.meaning.specs.Tables.{nullable_set, state_sets}
 use Rattle.sides.specs.View.{view}
 use Rattle.member.specs.Sets.{bits_of}

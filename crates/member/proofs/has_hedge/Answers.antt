@@ -1,4 +1,4 @@
-use Rattle.std.proofs.Common.{◌≡◌, Bool, ltb, length, Some, sym, ap, ◌∙◌}
+use Rattle.std.proofs.Common.{Bool, ltb, length, Some, sym, ap, ◌∙◌}
 use Rattle.model.specs.declared.sets.StateSet.{StateSet}
 use Rattle.model.specs.Sets.{has}
 use Rattle.theory.specs.Machine.{Machine}

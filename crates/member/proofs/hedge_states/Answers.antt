@@ -1,6 +1,5 @@
-use Rattle.std.proofs.Common.{◌≡◌, ℕ, ◌<◌, length, get_or, Some, None, Option, sym, ap, ◌∙◌, arith}
+use Rattle.std.proofs.Common.{ℕ, ◌<◌, length, Some, ap, ◌∙◌, arith}
 use Rattle.std.proofs.lemmas.Bool.{cond_below}
-use Rattle.model.specs.declared.sets.StateSet.{StateSet}
 use Rattle.theory.specs.Machine.{Machine}
 use Rattle.sides.specs.View.{view}
 use Rattle.member.specs.Sets.{spelled_set}

@@ -1,4 +1,4 @@
-use Rattle.std.proofs.Common.{◌≡◌, length, sym, ap, ◌∙◌, arith}
+use Rattle.std.proofs.Common.{◌≡◌, length, ap, ◌∙◌, arith}
 use Rattle.model.specs.Machine.{states_of}
 use Rattle.meaning.specs.Tables.{gather, takes}
 use Rattle.sides.specs.View.{view}

@@ -1,4 +1,4 @@
-use Rattle.std.proofs.Common.{◌<◌, length, sym, ◌∙◌, arith}
+use Rattle.std.proofs.Common.{sym, ◌∙◌, arith}
 use Rattle.member.proofs.Filling.{bits_at, bits_known, bits_beyond}
 use Rattle.member.proofs.set_of.Goals as goal
 

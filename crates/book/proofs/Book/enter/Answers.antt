@@ -1,4 +1,4 @@
-use Rattle.std.proofs.Common.{◌+◌, ◌<◌, ◌≤◌, length, refl, arith}
+use Rattle.std.proofs.Common.{◌+◌, refl, arith}
 use Rattle.std.proofs.lemmas.List.{length-set, drop-set-lt}
 use Rattle.book.proofs.Enter.{old_number, old_held, new_number, new_held, full_number, full_held}
 use Rattle.book.proofs.Book.enter.Goals as goal

@@ -1,11 +1,11 @@
-use Rattle.std.proofs.Common.{◌≡◌, ◌+◌, ◌-◌, ◌<◌, Bool, List, length, take, is_some, sym, ap, ◌∙◌, arith}
+use Rattle.std.proofs.Common.{◌≡◌, ◌-◌, ◌<◌, Bool, length, take, is_some, sym, ap, ◌∙◌, arith}
 use Rattle.model.specs.declared.rows.Row.{Row}
 use Rattle.ledger.specs.Settled.{at}
 use Rattle.theory.specs.Machine.{Machine}
-use Rattle.theory.specs.Inequality.{Pair, derivative_count}
+use Rattle.theory.specs.Inequality.{derivative_count}
 use Rattle.sides.specs.View.{view}
 use Rattle.gaps.specs.Shows.{shown}
-use Rattle.gaps.specs.Gaps.{known, subset_count, subset_gap, derivative_gap, name_gap}
+use Rattle.gaps.specs.Gaps.{subset_count, subset_gap, derivative_gap, name_gap}
 use Rattle.gaps.proofs.First.{first_more}
 use Rattle.gaps.proofs.Gaps.{cut_known, subset_none, subset_some, counted, derivative_none, name_none, name_unlabelled, gap_none, gap_found}
 use Rattle.gaps.proofs.Exact.{gap_exact}

@@ -1,5 +1,4 @@
-use Rattle.std.proofs.Common.{◌≡◌, cond, ltb, List, length, take, Some, None, sym, ap, ◌∙◌, arith}
-use Rattle.theory.specs.Machine.{Machine}
+use Rattle.std.proofs.Common.{cond, ltb, List, length, take, Some, None, sym, ap, ◌∙◌, arith}
 use Rattle.theory.specs.Inequality.{Pair, pairs}
 use Rattle.sides.specs.View.{view}
 use Rattle.gaps.specs.Gaps.{known}

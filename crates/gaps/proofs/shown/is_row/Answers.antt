@@ -1,4 +1,4 @@
-use Rattle.std.proofs.Common.{◌≡◌, sym, ◌∙◌}
+use Rattle.std.proofs.Common.{sym, ◌∙◌}
 use Rattle.model.specs.Blank.{blank_row}
 use Rattle.theory.specs.Inequality.{same_row}
 use Rattle.gaps.proofs.Any.{any_here, any_next, any_past}

@@ -1,4 +1,4 @@
-use Rattle.std.proofs.Common.{ℕ, List, Ok, Err, sym, subst}
+use Rattle.std.proofs.Common.{Err, sym, subst}
 use Rattle.tables.specs.Plain.{plain}
 use Rattle.load.specs.declared.fault.LoadError.{LoadError}
 use Rattle.load.specs.Loads.{Loads}

@@ -1,5 +1,5 @@
 use Rattle.std.proofs.Common.{Some, None, sym, ◌∙◌}
-use Rattle.model.specs.Climb.{above_here, above_step, above_stop}
+use Rattle.model.specs.Climb.{above_here, above_step}
 use Rattle.model.proofs.relation.+climbs.Goals as goal
 
 pub returns-then-h-t : goal.returns-then-h-t

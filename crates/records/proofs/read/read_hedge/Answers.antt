@@ -1,4 +1,4 @@
-use Rattle.std.proofs.Common.{◌≡◌, length, replicate, sym, ap, ◌∙◌}
+use Rattle.std.proofs.Common.{length, replicate, ap, ◌∙◌}
 use Rattle.model.specs.Blank.{blank_row}
 use Rattle.records.specs.Reading.{count_of, hedge_read}
 use Rattle.records.proofs.Sound.{answer_more, hedge_sound}

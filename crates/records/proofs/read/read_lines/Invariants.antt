@@ -1,6 +1,4 @@
-use Rattle.std.proofs.Common.{◌≡◌, ◌+◌, ◌≤◌, List, length}
-use Rattle.model.specs.declared.rows.Row.{Row}
-use Rattle.model.specs.declared.rows.Item.{Item}
+use Rattle.std.proofs.Common.{◌≡◌, ◌+◌, ◌≤◌, length}
 use Rattle.model.specs.Blank.{blank_row, blank_item}
 use Rattle.text.specs.Pieces.{lines}
 use Rattle.text.specs.Cursors.{lines_left}

@@ -1,4 +1,4 @@
-use Rattle.std.proofs.Common.{◌≡◌, ℕ, ◌+◌, ◌<◌, List, length, sym, ap, subst, ap₂, subst₂, arith}
+use Rattle.std.proofs.Common.{◌≡◌, ℕ, ◌+◌, ◌<◌, List, length, sym, subst₂, arith}
 use Rattle.model.specs.declared.rows.Row.{Row}
 use Rattle.search.proofs.Filling.{Keeping, keep_start, keep_skip, keep_take, keep_end}
 use Rattle.search.proofs.blank.keep_unmarked.Goals as goal

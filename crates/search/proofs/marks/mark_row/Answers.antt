@@ -1,6 +1,6 @@
-use Rattle.std.proofs.Common.{◌≡◌, ◌<◌, length, sym, ◌∙◌, arith}
+use Rattle.std.proofs.Common.{sym, arith}
 use Rattle.sides.specs.View.{view}
-use Rattle.marking.proofs.Turns.{used_below, step_none, step_new}
+use Rattle.marking.proofs.Turns.{used_below, step_new}
 use Rattle.search.proofs.marks.mark_row.Goals as goal
 
 pub bounds-items-used : goal.bounds-items-used

@@ -1,4 +1,3 @@
-use Rattle.std.proofs.Common.{◌≡◌, sym, ◌∙◌}
 use Rattle.sides.specs.View.{view}
 use Rattle.marking.proofs.Turns.{settle_start}
 use Rattle.search.proofs.marks.settle.Goals as goal

@@ -1,12 +1,12 @@
-use Rattle.std.proofs.Common.{◌≡◌, ℕ, ◌+◌, ◌-◌, ◌<◌, ◌≤◌, List, length, get_or, take, sym, refl, ap, ◌∙◌, subst, arith}
+use Rattle.std.proofs.Common.{◌+◌, ◌-◌, ◌<◌, ◌≤◌, length, sym, ap, ◌∙◌, subst, arith}
 use Rattle.std.proofs.lemmas.List.{length-take}
 use Rattle.model.specs.declared.rows.Row.{Row}
-use Rattle.theory.specs.Meeting.{meet_on, Met}
+use Rattle.theory.specs.Meeting.{meet_on}
 use Rattle.book.specs.declared.Book.{Book}
 use Rattle.book.specs.Feeding.{holds, room}
 use Rattle.sides.specs.View.{view}
 use Rattle.search.specs.Ends.{met_by}
-use Rattle.search.specs.declared.meeting.End.TheVariants.{All, Wide, OutOfRows}
+use Rattle.search.specs.declared.meeting.End.TheVariants.{Wide}
 use Rattle.search.proofs.Walk.{walk_end, turn_wide, turn_full, turn_more}
 use Rattle.search.proofs.meeting.walk.Goals as goal
 

@@ -1,8 +1,8 @@
-use Rattle.std.proofs.Common.{◌≡◌, ℕ, ◌<◌, ◌≤◌, List, length, get_or, Option, sym, ap, ◌∙◌, arith}
+use Rattle.std.proofs.Common.{◌≡◌, ◌<◌, List, length, get_or, Option, sym, ap, ◌∙◌, arith}
 use Rattle.model.specs.declared.rows.Item.{Item}
 use Rattle.model.specs.Machine.{Derivative}
 use Rattle.theory.specs.Inequality.{derivative, derivative_count, no_derivative}
-use Rattle.sides.specs.View.{view, covers_of}
+use Rattle.sides.specs.View.{view}
 use Rattle.marking.specs.Refutes.{of_covered}
 use Rattle.marking.proofs.First.{first_more, first_at, first_end}
 use Rattle.search.proofs.refuting.of_derivatives.Goals as goal

@@ -1,7 +1,7 @@
-use Rattle.std.proofs.Common.{◌≡◌, ℕ, ◌-◌, ◌^◌, ◌<◌, ◌≤◌, List, [], length, take, sym, refl, ap, ◌∙◌, arith}
+use Rattle.std.proofs.Common.{◌≡◌, ◌-◌, ◌^◌, List, length, take, sym, ap, ◌∙◌, arith}
 use Rattle.std.proofs.lemmas.List.{take_all}
 use Rattle.theory.specs.Inequality.{pairs, Pair, derivative, derivative_count}
-use Rattle.sides.specs.View.{view, names_of}
+use Rattle.sides.specs.View.{view}
 use Rattle.sides.proofs.Crowded.{few_pairs, counted, uncounted}
 use Rattle.marking.specs.Refutes.{first, of_subset, of_derivatives}
 use Rattle.marking.proofs.First.{first_unless}

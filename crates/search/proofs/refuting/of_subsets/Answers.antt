@@ -1,4 +1,4 @@
-use Rattle.std.proofs.Common.{◌≡◌, ℕ, ◌*◌, ◌%◌, ◌^◌, ◌<◌, ◌≤◌, length, sym, ap, ◌∙◌, arith}
+use Rattle.std.proofs.Common.{◌≡◌, ◌*◌, ◌%◌, ◌^◌, ◌<◌, length, sym, arith}
 use Rattle.std.proofs.lemmas.Nat.{one_shl}
 use Rattle.marking.specs.Refutes.{of_subset}
 use Rattle.marking.proofs.First.{first_more, first_at, first_end}

@@ -1,4 +1,4 @@
-use Rattle.std.proofs.Common.{◌≡◌, ℕ, ◌<◌, ◌≤◌, Option, sym, ap, ◌∙◌, arith}
+use Rattle.std.proofs.Common.{◌≡◌, ℕ, ◌<◌, Option, sym, arith}
 use Rattle.model.specs.declared.rows.Item.{Item}
 use Rattle.theory.specs.Inequality.{pairs}
 use Rattle.sides.specs.View.{view, names_of}

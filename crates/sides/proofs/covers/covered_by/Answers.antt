@@ -1,4 +1,4 @@
-use Rattle.std.proofs.Common.{◌≡◌, Bool, [], ◌∷◌, ◌++◌, vec_items, sym, ap, ◌∙◌, arith}
+use Rattle.std.proofs.Common.{Bool, [], ◌∷◌, ◌++◌, vec_items, sym, ap, ◌∙◌, arith}
 use Rattle.std.proofs.lemmas.List.FromFn.{map-range_with_len_more}
 use Rattle.sides.proofs.covers.covered_by.Goals as goal
 

@@ -1,4 +1,4 @@
-use Rattle.std.proofs.Common.{◌≡◌, get_or, sym, ap, ◌∙◌}
+use Rattle.std.proofs.Common.{get_or, sym, ap, ◌∙◌}
 use Rattle.model.specs.Sets.{insert}
 use Rattle.model.specs.declared.sets.StateSet.{StateSet}
 use Rattle.sides.proofs.Subset.{rests_in, rests_out}

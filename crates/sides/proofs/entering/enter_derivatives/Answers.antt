@@ -1,9 +1,9 @@
-use Rattle.std.proofs.Common.{◌≡◌, ℕ, ◌<◌, ◌≤◌, true, false, List, length, get_or, sym, refl, ap, ◌∙◌, arith}
+use Rattle.std.proofs.Common.{◌<◌, ◌≤◌, true, false, List, length, get_or, refl, ap, ◌∙◌, arith}
 use Rattle.model.specs.declared.rows.Row.{Row}
 use Rattle.model.specs.Machine.{Derivative}
 use Rattle.theory.specs.Inequality.{same_row, derivative, derivative_count, no_derivative}
 use Rattle.book.proofs.Feeding.{fills_none, fills_as, fills_turn, fills_stop, fills_end}
-use Rattle.sides.specs.View.{view, covers_of}
+use Rattle.sides.specs.View.{view}
 use Rattle.sides.specs.Steps.{derivative_sides}
 use Rattle.sides.proofs.entering.enter_derivatives.Goals as goal
 

@@ -1,10 +1,8 @@
-use Rattle.std.proofs.Common.{◌≡◌, ℕ, ◌-◌, ◌<◌, ◌≤◌, true, false, List, [], length, take, sym, refl, ap, ◌∙◌, arith}
+use Rattle.std.proofs.Common.{◌≡◌, ◌-◌, true, List, [], length, take, sym, refl, ap, ◌∙◌, arith}
 use Rattle.std.proofs.lemmas.List.{take_all}
-use Rattle.model.specs.declared.rows.Row.{Row}
-use Rattle.theory.specs.Inequality.{same_row, of_name, pairs, Pair}
-use Rattle.theory.specs.Meeting.{sides_of}
+use Rattle.theory.specs.Inequality.{same_row, pairs, Pair}
 use Rattle.book.proofs.Feeding.{fills_none, fills_as}
-use Rattle.sides.specs.View.{view, names_of}
+use Rattle.sides.specs.View.{view}
 use Rattle.sides.specs.Steps.{derivative_step}
 use Rattle.sides.proofs.Sided.{name_sides, name_none}
 use Rattle.sides.proofs.Crowded.{few_pairs, counted, uncounted}

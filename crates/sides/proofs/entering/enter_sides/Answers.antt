@@ -1,5 +1,4 @@
-use Rattle.std.proofs.Common.{◌≡◌, ℕ, ◌<◌, ◌≤◌, true, false, List, sym, refl, ap, ◌∙◌, arith}
-use Rattle.model.specs.declared.rows.Row.{Row}
+use Rattle.std.proofs.Common.{◌<◌, ◌≤◌, true, false, sym, refl, ◌∙◌, arith}
 use Rattle.theory.specs.Inequality.{same_row, of_name}
 use Rattle.theory.specs.Meeting.{sides_of}
 use Rattle.book.proofs.Feeding.{fills_none, fills_as, fills_turn, fills_stop, fills_end}

@@ -1,4 +1,4 @@
-use Rattle.std.proofs.Common.{true, false, List, [], ◌∷◌, ◌++◌, sym, ap, ◌∙◌, ap₂}
+use Rattle.std.proofs.Common.{true, false, [], ◌∷◌, ap, ◌∙◌}
 use Rattle.model.specs.declared.rows.Row.{Row}
 use Rattle.theory.specs.Inequality.{same_row, either_or}
 use Rattle.book.proofs.Feeding.{fills_as, fills_full, fills_more}

@@ -1,4 +1,4 @@
-use Rattle.std.proofs.Common.{◌≡◌, sym, refl, ◌∙◌}
+use Rattle.std.proofs.Common.{sym, refl, ◌∙◌}
 use Rattle.sides.proofs.entering.take_row.Goals as goal
 
 pub returns-then-is_wide : goal.returns-then-is_wide

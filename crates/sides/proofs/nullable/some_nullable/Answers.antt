@@ -1,7 +1,6 @@
-use Rattle.std.proofs.Common.{◌≡◌, ◌<◌, Bool, true, false, ◌&&◌, length, sym, ap, ◌∙◌, ap₂, arith}
+use Rattle.std.proofs.Common.{◌≡◌, ◌<◌, ◌&&◌, length, sym, ◌∙◌, ap₂, arith}
 use Rattle.model.specs.Sets.{has}
 use Rattle.model.specs.Machine.{states_of, nullable_at}
-use Rattle.theory.specs.Count.{some}
 use Rattle.theory.specs.Inequality.{some_nullable}
 use Rattle.sides.proofs.Some.{some_more, some_at, some_end}
 use Rattle.sides.proofs.nullable.some_nullable.Goals as goal

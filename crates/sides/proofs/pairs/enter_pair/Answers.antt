@@ -1,4 +1,4 @@
-use Rattle.std.proofs.Common.{[], ◌∷◌, sym, refl, ◌∙◌}
+use Rattle.std.proofs.Common.{sym, refl, ◌∙◌}
 use Rattle.theory.specs.Inequality.{same_pair}
 use Rattle.book.proofs.Feeding.{fills_when, fills_unless}
 use Rattle.sides.proofs.pairs.enter_pair.Goals as goal

@@ -1,7 +1,7 @@
-use Rattle.std.proofs.Common.{◌<◌, ◌≤◌, length, sym, refl, ap, ◌∙◌, arith}
+use Rattle.std.proofs.Common.{◌<◌, ◌≤◌, length, refl, ◌∙◌, arith}
 use Rattle.model.specs.Machine.{states_of}
 use Rattle.theory.specs.Inequality.{same_pair, all_pairs}
-use Rattle.book.proofs.Feeding.{fills_none, fills_as, fills_says, fills_turn, fills_stop, fills_end}
+use Rattle.book.proofs.Feeding.{fills_none, fills_says, fills_turn, fills_stop, fills_end}
 use Rattle.sides.specs.View.{view}
 use Rattle.sides.specs.Steps.{state_step}
 use Rattle.sides.proofs.pairs.enter_set.Goals as goal

@@ -1,8 +1,8 @@
-use Rattle.std.proofs.Common.{◌<◌, ◌≤◌, true, false, List, length, get_or, sym, refl, ap, ◌∙◌, arith}
+use Rattle.std.proofs.Common.{◌<◌, ◌≤◌, true, false, List, length, get_or, refl, ap, ◌∙◌, arith}
 use Rattle.model.specs.Machine.{Derivative}
 use Rattle.theory.specs.Inequality.{same_pair, pairs_of, no_derivative, derivative_count}
-use Rattle.book.proofs.Feeding.{fills_none, fills_as, fills_says, fills_turn, fills_stop, fills_end}
-use Rattle.sides.specs.View.{view, covers_of}
+use Rattle.book.proofs.Feeding.{fills_none, fills_as, fills_turn, fills_stop, fills_end}
+use Rattle.sides.specs.View.{view}
 use Rattle.sides.specs.Steps.{pair_of, pair_step}
 use Rattle.sides.proofs.pairs.enter_state.Goals as goal
 

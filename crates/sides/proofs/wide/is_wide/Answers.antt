@@ -1,11 +1,6 @@
-use Rattle.std.proofs.Common.{◌≡◌, ℕ, ◌<◌, Bool, ◌&&◌, ltb, length, sym, ap, ◌∙◌, arith}
-use Rattle.theory.specs.Machine.{Machine}
-use Rattle.model.specs.declared.rows.Row.{Row}
-use Rattle.theory.specs.Count.{some}
-use Rattle.theory.specs.Inequality.{derivative, derivative_count, pairs, wide}
+use Rattle.std.proofs.Common.{◌≡◌, ◌<◌, sym, ◌∙◌, arith}
 use Rattle.sides.specs.View.{view, names_of}
-use Rattle.sides.specs.Steps.{labelled_by}
-use Rattle.sides.proofs.Some.{some_more, some_at, some_end, some_and, some_same}
+use Rattle.sides.proofs.Some.{some_more, some_at, some_end}
 use Rattle.sides.proofs.Crowded.{crowded_under, wide_is}
 use Rattle.sides.proofs.wide.is_wide.Goals as goal
 

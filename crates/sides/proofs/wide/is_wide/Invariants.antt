@@ -1,7 +1,7 @@
 use Rattle.std.proofs.Common.{◌≡◌, false, ◌&&◌, ltb, length}
 use Rattle.theory.specs.Count.{some}
 use Rattle.theory.specs.Inequality.{pairs}
-use Rattle.sides.specs.View.{view, covers_of}
+use Rattle.sides.specs.View.{view}
 use Rattle.sides.specs.Steps.{labelled_by}
 use Rattle.sides.proofs.wide.is_wide.Given as goal
 

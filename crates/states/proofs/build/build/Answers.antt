@@ -1,9 +1,8 @@
-use Rattle.std.proofs.Common.{◌≡◌, ◌<◌, ◌≤◌, [], length, replicate, Some, None, vec_items, vec_len, sym, refl, ap, ◌∙◌, subst, arith}
+use Rattle.std.proofs.Common.{◌≡◌, ◌≤◌, [], length, Some, vec_items, vec_len, sym, ◌∙◌, subst, arith}
 use Rattle.theory.specs.Tree.{body_of}
 use Rattle.states.specs.Test.{FirstUnlawful}
 use Rattle.std.specs.Vec.{with_items}
 use Rattle.std.proofs.lemmas.List.{with_items_is}
-use Rattle.states.specs.declared.nullable.Known.TheVariants.{Unknown}
 use Rattle.states.specs.Memo.{Sound}
 use Rattle.expressions.proofs.Standing.{mention_count, mentions_separate}
 use Rattle.states.proofs.Building.{sound_none, spans_none, broke, broke_memory, told_first, told_all, state_first, built, none_alone}

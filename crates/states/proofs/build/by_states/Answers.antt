@@ -1,4 +1,4 @@
-use Rattle.std.proofs.Common.{◌≡◌, ◌<◌, length, get_or, vec_items, refl, ap, subst, arith}
+use Rattle.std.proofs.Common.{◌≡◌, get_or, vec_items, refl, subst, arith}
 use Rattle.expressions.specs.Derived.{part}
 use Rattle.states.specs.Build.{Named}
 use Rattle.states.proofs.Building.{named_none, named_more}

@@ -1,18 +1,17 @@
-use Rattle.std.proofs.Common.{◌≡◌, ℕ, ◌+◌, ◌*◌, ◌<◌, ◌≤◌, Bool, true, false, cond, List, [], length, get_or, set, Some, None, vec_items, vec_len, Option, sym, refl, ap, ◌∙◌, subst, ⊎_elim, arith}
+use Rattle.std.proofs.Common.{◌≡◌, ◌+◌, ◌*◌, ◌<◌, ◌≤◌, List, length, get_or, set, Some, None, vec_items, Option, sym, refl, ap, ◌∙◌, subst, ⊎_elim, arith}
 use Rattle.states.specs.declared.derive.Span.{Span}
 use Rattle.std.specs.Vec.{with_items}
 use Rattle.std.proofs.lemmas.List.{with_items_is}
-use Rattle.std.proofs.lemmas.Bool.{cond-true, cond-false, lt-ltb, le-ltb}
+use Rattle.std.proofs.lemmas.Bool.{cond-false, le-ltb}
 use Rattle.model.specs.declared.nodes.Node.TheVariants.{Nothing, Empty, Simple, Rule, Element, Union, Seq, Star}
-use Rattle.expressions.specs.Numbers.{earlier, body_at, null_at}
-use Rattle.expressions.specs.Fine.{Fine}
+use Rattle.expressions.specs.Numbers.{null_at}
 use Rattle.expressions.proofs.Ranks.{part_falls, rule_falls}
 use Rattle.expressions.proofs.Ders.{ders_past}
 use Rattle.expressions.proofs.Fine.{grows_long}
 use Rattle.states.specs.declared.derive.Work.{Work}
 use Rattle.states.specs.Memo.{Sound}
-use Rattle.states.specs.Derive.{State, On, Goes, Went, Lists, Inside}
-use Rattle.states.proofs.Going.{state_nulls, Then, turn_ready, arm_seq, arm_star, null_told, then_some, then_none, on_same, on_next, lists_none, inside_none, told_none, noted_lists, at_node, into, arm_none, arm_simple, arm_element, arm_rule, arm_union, arm_first, arm_noted, first_later, second_in, seq_first, star_first, union_first, on_nulls, seq_step, star_step, null_later, inside_longer}
+use Rattle.states.specs.Derive.{Goes, Went}
+use Rattle.states.proofs.Going.{state_nulls, Then, turn_ready, arm_seq, arm_star, null_told, then_some, then_none, on_same, lists_none, inside_none, noted_lists, at_node, into, arm_none, arm_simple, arm_element, arm_rule, arm_union, arm_noted, on_nulls, inside_longer}
 use Rattle.states.proofs.derive.+derive.Goals as goal
 use Rattle.states.proofs.derive.+derive.Goals.{in-Nothing, in-Simple+in_ok-span-in-Simple, in-Element+in_ok-span-in-Element, in-Rule+then-k-rule+in_ok-span-in-Rule, in-Rule+else-k-rule, in-Union+in_ok-left-in-Union+in_ok-right-in-Union+in_ok-span-in-Union, in-Seq+in_ok-first-in-Seq+in_ok-span-in-Seq, then-nullable+in_ok-then-in-Seq, else-nullable, in-Star+in_ok-first-in-Star+in_ok-span-in-Star}
 

@@ -1,4 +1,4 @@
-use Rattle.std.proofs.Common.{◌≡◌, [], length, vec_items, sym, ap, ◌∙◌, subst}
+use Rattle.std.proofs.Common.{◌≡◌, length, vec_items, sym, ap, ◌∙◌, subst}
 use Rattle.theory.specs.Count.{entered}
 use Rattle.expressions.specs.Records.{same_derivative}
 use Rattle.expressions.specs.Derived.{part, AllIn}

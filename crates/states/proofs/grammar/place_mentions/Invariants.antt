@@ -1,4 +1,4 @@
-use Rattle.std.proofs.Common.{◌≡◌, vec_items}
+use Rattle.std.proofs.Common.{vec_items}
 use Rattle.expressions.specs.Fine.{Grows}
 use Rattle.states.specs.Read.{StandFor, mentions}
 use Rattle.states.proofs.grammar.place_mentions.Given as goal

@@ -1,11 +1,10 @@
-use Rattle.std.proofs.Common.{◌≡◌, ◌<◌, map, length, get_or, vec_items, sym, ap, ◌∙◌, subst, arith}
+use Rattle.std.proofs.Common.{◌≡◌, map, get_or, vec_items, ap, ◌∙◌, arith}
 use Rattle.model.specs.declared.nodes.Node.TheVariants.{Empty}
-use Rattle.theory.specs.Language.{none, empty}
+use Rattle.theory.specs.Language.{none}
 use Rattle.theory.specs.Tree.{trees}
 use Rattle.expressions.specs.Fine.{shown}
 use Rattle.expressions.proofs.Fine.{grows_on, grows_tree, grows_long, below_more}
 use Rattle.expressions.proofs.Shown.{shown_grows, same_bodies}
-use Rattle.states.specs.Read.{StandFor, Numbered}
 use Rattle.states.proofs.Reading.{enter_numbered}
 use Rattle.states.proofs.grammar.read.Goals as goal
 

@@ -1,4 +1,4 @@
-use Rattle.std.proofs.Common.{◌≡◌, ◌≤◌, not, length, get_or, vec_items, vec_len, sym, ap, ◌∙◌, subst, arith}
+use Rattle.std.proofs.Common.{◌≡◌, ◌≤◌, not, length, get_or, vec_items, sym, ap, ◌∙◌, subst, arith}
 use Rattle.expressions.specs.Numbers.{body_at}
 use Rattle.states.specs.declared.recursion.Ways.{Ways}
 use Rattle.states.specs.Test.{no_ways, ways_from, Filled}

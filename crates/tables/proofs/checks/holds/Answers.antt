@@ -1,4 +1,4 @@
-use Rattle.std.proofs.Common.{◌≡◌, ℕ, ◌+◌, ◌||◌, List, [], map, drop, sym, ap, ◌∙◌, Bor}
+use Rattle.std.proofs.Common.{ℕ, ◌+◌, ◌||◌, List, [], map, drop, sym, ap, ◌∙◌, Bor}
 use Rattle.tables.specs.Checks.{has}
 use Rattle.tables.proofs.Steps.{has_more, has_end}
 use Rattle.tables.proofs.checks.holds.Goals as goal

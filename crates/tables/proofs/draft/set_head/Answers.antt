@@ -1,4 +1,4 @@
-use Rattle.std.proofs.Common.{◌≡◌, ◌≤◌, length, vec_items, sym, arith}
+use Rattle.std.proofs.Common.{◌≤◌, length, vec_items, sym, arith}
 use Rattle.std.proofs.lemmas.List.{set_past}
 use Rattle.tables.proofs.draft.set_head.Goals as goal
 

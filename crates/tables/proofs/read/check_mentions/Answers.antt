@@ -1,4 +1,4 @@
-use Rattle.std.proofs.Common.{◌≡◌, sym, ◌∙◌}
+use Rattle.std.proofs.Common.{sym, ◌∙◌}
 use Rattle.tables.proofs.Steps.{present_more, present_not, present_end}
 use Rattle.tables.proofs.read.check_mentions.Goals as goal
 

@@ -1,7 +1,7 @@
-use Rattle.std.proofs.Common.{◌≡◌, ◌+◌, ◌-◌, ◌<◌, ◌≤◌, length, take, drop, Some, sym, ap, ◌∙◌, arith}
+use Rattle.std.proofs.Common.{◌+◌, ◌<◌, ◌≤◌, length, drop, Some, sym, ap, ◌∙◌, arith}
 use native.Mathlib.Nat.{sub-zero}
 use Rattle.std.proofs.lemmas.List.{take_rest}
-use Rattle.text.specs.Pieces.{before, after}
+use Rattle.text.specs.Pieces.{before}
 use Rattle.text.proofs.Cuts.{front_is, back_is, no_back, all_front}
 use Rattle.text.proofs.line.cut.Goals as goal
 

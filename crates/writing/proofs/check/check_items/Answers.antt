@@ -1,4 +1,4 @@
-use Rattle.std.proofs.Common.{◌≡◌, Err, sym, ap, ◌∙◌, arith}
+use Rattle.std.proofs.Common.{Err, sym, ap, ◌∙◌, arith}
 use Rattle.model.specs.Blank.{blank_item}
 use Rattle.records.specs.Places.{item_fits}
 use Rattle.writing.proofs.Checked.{check_room, check_refused, check_passed}

@@ -1,4 +1,4 @@
-use Rattle.std.proofs.Common.{◌≡◌, ℕ, Err, sym, ap, ◌∙◌, arith}
+use Rattle.std.proofs.Common.{ℕ, Err, sym, ap, ◌∙◌, arith}
 use Rattle.model.specs.Blank.{blank_row}
 use Rattle.writing.specs.Checks.{row_fits}
 use Rattle.writing.proofs.Checked.{check_room, check_refused, check_passed}

@@ -1,4 +1,4 @@
-use Rattle.std.proofs.Common.{◌≡◌, ◌+◌, [], ◌∷◌, sym, refl, ◌∙◌, arith}
+use Rattle.std.proofs.Common.{sym, refl, ◌∙◌}
 use Rattle.std.proofs.lemmas.List.{set_past}
 use Rattle.writing.proofs.put.put.Goals as goal
 use Rattle.writing.proofs.put.put.Goals.{then-at-out, else-at-out}

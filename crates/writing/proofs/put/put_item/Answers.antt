@@ -1,5 +1,4 @@
-use Rattle.std.proofs.Common.{◌≡◌, [], ◌∷◌, ◌++◌, length, codes, decimal, sym, refl, ap, arith}
-use Rattle.writing.specs.Texts.{item_text}
+use Rattle.std.proofs.Common.{[], ◌∷◌, ◌++◌, codes, decimal, arith}
 use Rattle.writing.proofs.Laid.{wrote_then, wrote_as}
 use Rattle.writing.proofs.Spelled.{line_length, two_length, item_parts}
 use Rattle.writing.proofs.put.put_item.Goals as goal

@@ -1,4 +1,4 @@
-use Rattle.std.proofs.Common.{◌≡◌, [], ◌∷◌, ◌++◌, length, codes, decimal, sym, ap, arith}
+use Rattle.std.proofs.Common.{[], ◌∷◌, ◌++◌, codes, decimal, arith}
 use Rattle.writing.proofs.Laid.{wrote_then, wrote_as}
 use Rattle.writing.proofs.Spelled.{line_length, one_length, pair_parts}
 use Rattle.writing.proofs.put.put_pair.Goals as goal

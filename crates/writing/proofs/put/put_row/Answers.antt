@@ -1,5 +1,5 @@
-use Rattle.std.proofs.Common.{◌≡◌, [], ◌∷◌, ◌++◌, map, length, codes, decimal, refl, arith}
-use Rattle.writing.specs.Texts.{members, states_text, row_text}
+use Rattle.std.proofs.Common.{[], ◌∷◌, ◌++◌, map, codes, decimal, arith}
+use Rattle.writing.specs.Texts.{members, states_text}
 use Rattle.writing.proofs.Laid.{wrote_then}
 use Rattle.writing.proofs.Spelled.{line_length}
 use Rattle.writing.proofs.put.put_row.Goals as goal

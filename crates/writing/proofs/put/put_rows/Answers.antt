@@ -1,8 +1,8 @@
-use Rattle.std.proofs.Common.{◌≡◌, ◌+◌, length, get_or, drop, refl, ap, ◌∙◌, arith}
+use Rattle.std.proofs.Common.{◌+◌, length, get_or, drop, refl, ap, ◌∙◌, arith}
 use Rattle.std.proofs.lemmas.List.{length-append, at_drop_more, at_drop_all}
 use Rattle.model.specs.Blank.{blank_row}
 use Rattle.writing.specs.Texts.{all_texts, row_text}
-use Rattle.writing.proofs.Laid.{Leads, leads_from, leads_on, leads_done}
+use Rattle.writing.proofs.Laid.{leads_from, leads_on, leads_done}
 use Rattle.writing.proofs.put.put_rows.Goals as goal
 
 pub loop-row-init : goal.loop-row-init

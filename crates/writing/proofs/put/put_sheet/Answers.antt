@@ -1,8 +1,7 @@
-use Rattle.std.proofs.Common.{◌≡◌, ◌+◌, ◌++◌, length, ap, ◌∙◌, arith}
-use Rattle.std.proofs.lemmas.List.{length-append}
-use Rattle.writing.specs.Texts.{verdict_line, pair_text, records_text, end_text, sheet_text}
+use Rattle.std.proofs.Common.{◌++◌, arith}
+use Rattle.writing.specs.Texts.{verdict_line, pair_text, records_text, end_text}
 use Rattle.writing.proofs.Laid.{wrote_then}
-use Rattle.writing.proofs.Spelled.{sheet_length, verdict_length}
+use Rattle.writing.proofs.Spelled.{sheet_length}
 use Rattle.writing.proofs.put.put_sheet.Goals as goal
 
 pub put_pair-pair-requires : goal.put_pair-pair-requires

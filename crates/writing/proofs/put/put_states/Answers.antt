@@ -1,7 +1,7 @@
-use Rattle.std.proofs.Common.{◌≡◌, ◌+◌, ◌-◌, map, length, decimal, refl, ap, ◌∙◌, arith}
+use Rattle.std.proofs.Common.{◌+◌, ◌-◌, map, length, decimal, refl, ap, ◌∙◌, arith}
 use Rattle.std.proofs.lemmas.List.{length-append}
 use Rattle.writing.specs.Texts.{further, members, state_text, states_text}
-use Rattle.writing.proofs.Laid.{Leads, leads_from, leads_on, leads_done}
+use Rattle.writing.proofs.Laid.{leads_from, leads_on, leads_done}
 use Rattle.writing.proofs.Spelled.{states_more, states_done}
 use Rattle.writing.proofs.put.put_states.Goals as goal
 

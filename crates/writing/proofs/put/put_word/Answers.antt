@@ -1,6 +1,6 @@
-use Rattle.std.proofs.Common.{◌≡◌, ◌+◌, [], ◌∷◌, get_or, drop, sym, refl, ap, subst, arith}
+use Rattle.std.proofs.Common.{◌+◌, [], ◌∷◌, get_or, drop, refl, arith}
 use Rattle.std.proofs.lemmas.List.{length-drop, drop_more, drop_all}
-use Rattle.writing.proofs.Laid.{Leads, leads_from, leads_on, leads_done}
+use Rattle.writing.proofs.Laid.{leads_from, leads_on, leads_done}
 use Rattle.writing.proofs.put.put_word.Goals as goal
 
 pub loop-b-init : goal.loop-b-init

@@ -1,4 +1,4 @@
-use Rattle.std.proofs.Common.{◌≡◌, ◌<◌, ◌≤◌, length, sym, ◌∙◌, arith}
+use Rattle.std.proofs.Common.{◌≤◌, length, sym, ◌∙◌, arith}
 use Rattle.gaps.proofs.Linked.{chain_head, chain_link, chain_found, link_falls}
 use Rattle.gaps.proofs.grounds.Grounds.has_row.Goals as goal
 

@@ -1,4 +1,4 @@
-use Rattle.std.proofs.Common.{◌≡◌, ℕ, ◌*◌, ◌%◌, ◌^◌, ◌<◌, sym, ap, ◌∙◌, lt-ltb}
+use Rattle.std.proofs.Common.{sym, ap, ◌∙◌, lt-ltb}
 use lib.Bits.{bit_or}
 use Rattle.std.proofs.lemmas.Bool.{cond-true}
 use Rattle.std.proofs.lemmas.Nat.{one_shl}

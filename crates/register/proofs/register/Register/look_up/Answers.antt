@@ -1,4 +1,3 @@
-use Rattle.std.proofs.Common.{◌≡◌, Ok, Err, sym, refl, ap, ◌∙◌, subst}
 use Rattle.tables.specs.Plain.{Plain, plain}
 use Rattle.theory.specs.Machine.{Machine}
 use Rattle.ledger.specs.Settled.{at}

@@ -1,8 +1,8 @@
-use Rattle.std.proofs.Common.{◌≡◌, length, sym, refl, ap, ◌∙◌, subst}
+use Rattle.std.proofs.Common.{length}
 use Rattle.tables.specs.Plain.{Plain, plain}
 use Rattle.theory.specs.Machine.{Machine}
 use Rattle.sides.specs.View.{view}
-use Rattle.register.proofs.Testing.{Tested, tested}
+use Rattle.register.proofs.Testing.{tested}
 use Rattle.register.proofs.register.Register.member.Goals as goal
 
 pub returns : goal.returns

@@ -1,10 +1,10 @@
-use Rattle.std.proofs.Common.{◌≡◌, ℕ, length, vec_len, sym, refl, ◌∙◌, subst, rules}
+use Rattle.std.proofs.Common.{ℕ, length, refl, ◌∙◌, subst}
 use mathlib.Core.Logic.{∥∥₁_map}
 use Rattle.tables.specs.Plain.{plain}
 use Rattle.theory.specs.Machine.{Machine}
 use Rattle.ledger.specs.Settled.{at}
 use Rattle.sides.specs.View.{view}
-use Rattle.search.specs.Answered.{root_of, suits, Asked, Answered}
+use Rattle.search.specs.Answered.{root_of, suits, Asked}
 use Rattle.tables.specs.Plain.{Plain}
 use Rattle.load.specs.Loaded.{bodies_of, rules_of}
 use Rattle.law.specs.Claims.{AllTrue}

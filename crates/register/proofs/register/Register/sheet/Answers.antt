@@ -1,26 +1,15 @@
-use Rattle.std.proofs.Common.{◌≡◌, ℕ, List, length, replicate, Ok, Err, vec_len, Result, sym, refl, ap, ◌∙◌, subst, Bor}
-use mathlib.Core.Logic.{∥∥₁_map}
+use Rattle.std.proofs.Common.{ℕ, length, replicate, Ok, Err, vec_len, sym, ap, ◌∙◌, subst, Bor}
 use Rattle.model.specs.Blank.{blank_row, blank_item}
-use Rattle.model.specs.declared.rows.Row.{Row}
-use Rattle.model.specs.declared.rows.Item.{Item}
 use Rattle.tables.specs.Plain.{Plain, plain}
 use Rattle.theory.specs.Machine.{Machine}
-use Rattle.ledger.specs.declared.table.Settled.{Settled}
 use Rattle.ledger.specs.Settled.{at, enters}
 use Rattle.load.specs.declared.grammar.Grammar.{Grammar}
 use Rattle.sides.specs.declared.covers.Covers.{Covers}
 use Rattle.sides.specs.View.{view, covers_of}
-use Rattle.records.specs.declared.fault.CallFault.{CallFault}
-use Rattle.records.specs.declared.sheet.Sheet.{Sheet}
-use Rattle.records.specs.Reading.{Found, sheet_read, sheet_of, padded, rows_in, items_in}
-use Rattle.judge.specs.Judgement.{refusal}
 use Rattle.load.specs.Loaded.{bodies_of, rules_of}
 use Rattle.law.specs.Claims.{AllTrue}
-use Rattle.law.specs.Sheets.{kind_fault, sheet_outcome}
-use Rattle.law.proofs.Reading.{sheet_well, sheet_pair}
-use Rattle.law.proofs.Settling.{enters_true, kind_settles}
-use Rattle.register.specs.Calls.{sheet_judged}
-use Rattle.register.proofs.Sheeting.{Judging, judging, Leaves, refused, accepted, entered}
+use Rattle.law.specs.Sheets.{sheet_outcome}
+use Rattle.register.proofs.Sheeting.{judging, Leaves, refused, accepted, entered}
 use Rattle.register.proofs.register.Register.sheet.Goals as goal
 
 pub returns-in-Err : goal.returns-in-Err

@@ -1,7 +1,6 @@
 use Rattle.std.specs.Str.{bytes_eq}
 use Rattle.std.proofs.lemmas.Slice.Eq.{slice_eq-Decides, bytes_eq-Decides}
 use Rattle.std.proofs.lemmas.Bool.Decides.{same_from_decides, Decides-eqb}
-use Rattle.text.specs.Fields.{view, is_word}
 use Rattle.text.proofs.field.Field.is.Goals as goal
 
 pub returns-in-Key : goal.returns-in-Key

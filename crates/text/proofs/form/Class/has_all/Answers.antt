@@ -1,4 +1,4 @@
-use Rattle.std.proofs.Common.{◌≡◌, ◌+◌, ◌&&◌, get_or, drop, sym, ap, ◌∙◌}
+use Rattle.std.proofs.Common.{◌+◌, ◌&&◌, drop, sym, ap, ◌∙◌}
 use Rattle.text.specs.Forms.{all_of}
 use Rattle.text.proofs.Decimals.{all_more, all_end}
 use Rattle.text.proofs.form.Class.has_all.Goals as goal

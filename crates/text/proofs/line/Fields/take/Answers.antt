@@ -1,5 +1,4 @@
 use Rattle.std.proofs.Common.{◌≡◌, ◌∷◌, sym, refl, ap, ◌∙◌}
-use Rattle.text.specs.Pieces.{before}
 use Rattle.text.specs.Cursors.{next_field, others, fields_in, fields_left}
 use Rattle.text.proofs.Cuts.{fields_step}
 use Rattle.text.proofs.line.Fields.take.Goals as goal
