@@ -2,7 +2,7 @@
 use Rattle.std.proofs.Common.{◌≡◌, ℕ, suc, ◌+◌, ◌-◌, ◌*◌, ◌/◌, ◌%◌, ◌^◌, ◌<◌, ◌≤◌, min, Bool, true, false, cond, ◌&&◌, eqb, ltb, leb, ◌⊎◌, List, [], ◌∷◌, ◌++◌, length, set, replicate, IfOk, Ok, Err, codes, Result, sym, refl, ap, ◌∙◌, subst, inl, inr, ⊎_elim, pow-suc, add-one, arith}
 use native.Mathlib.Nat.{div-eq_of_lt}
 use lib.Bits.{bit_or, or_shifted_r}
-use Rattle.std.specs.List.{AllByRecursion as All}
+use Rattle.std.specs.List.{AllByRecursion}
 use Rattle.std.proofs.lemmas.Nat.{pow_pos, pow_below}
 use Rattle.std.proofs.ByRecursion.{All-push}
 use Rattle.std.proofs.lemmas.List.{length_push, get_or_push, get_or_append_left, set_at, append_assoc}
@@ -181,7 +181,7 @@ pub record Kept (L : Limits) (names : List Name) (f : Found) : Type 0 where
   pub counted : f.at.count ≡ length f.rows + length f.items
   pub within : f.at.count ≤ L.room
   pub placed : Placed f.at.stage f.at.verdict f.rows f.items
-  pub rows_fit : All (RowFits L.states) f.rows
+  pub rows_fit : AllByRecursion (RowFits L.states) f.rows
   pub items_fit : ItemsFit names f.items
 
 placed_records : (v : Verdict) (rows : List Row) (items : List Item) → rows ≡ [] → items ≡ [] → Placed (records_of v) v rows items

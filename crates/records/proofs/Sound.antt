@@ -1,7 +1,7 @@
 -- The records of a text that was read, as the slices hold them afterwards.
 use Rattle.std.proofs.Common.{◌≡◌, ℕ, ◌+◌, ◌-◌, ◌<◌, ◌≤◌, true, false, ◌||◌, eqb, ltb, leb, List, [], length, replicate, IfOk, Ok, Err, Result, sym, refl, ap, ◌∙◌, subst, ⊎_elim, arith}
 use native.Mathlib.Nat.{sub-zero}
-use Rattle.std.specs.List.{AllByRecursion as All}
+use Rattle.std.specs.List.{AllByRecursion}
 use Rattle.std.proofs.ByRecursion.{All-get_or}
 use Rattle.std.proofs.lemmas.Result.{IfOk-weaker}
 use Rattle.std.proofs.lemmas.List.{length-append, length-replicate, get_or_append_left, take_at, drop_at}
@@ -45,7 +45,7 @@ pub padded_length : {X : Type 0} (b : X) (n : ℕ) (xs : List X) → length xs �
 padded_length b n xs h = length-append xs (replicate (n - length xs) b) ∙ omega (arith, length-replicate (n - length xs) b)
 
 -- the rows of a list with blanks after it
-rows_sound : (states n : ℕ) (rows : List Row) → length rows ≤ n → All (RowFits states) rows → (items : List Item) (m : ℕ) → items ≡ [] →
+rows_sound : (states n : ℕ) (rows : List Row) → length rows ≤ n → AllByRecursion (RowFits states) rows → (items : List Item) (m : ℕ) → items ≡ [] →
     RowsSound states (length rows) (padded blank_row n rows) (padded blank_item m items)
 rows_sound states n rows le fit items m none =
     let long = padded_length blank_row n rows le in
@@ -98,7 +98,7 @@ answer_more g (Err x) p e = let z : false ≡ true = cc in elim (false≢true z)
 
 -- the records of a text that ended, by its verdict
 ended_sound : (L : Limits) (names : List Name) (rows : List Row) (items : List Item) (m n count : ℕ) →
-    count ≡ length rows + length items → count ≤ m → count ≤ n → All (RowFits L.states) rows → ItemsFit names items →
+    count ≡ length rows + length items → count ≤ m → count ≤ n → AllByRecursion (RowFits L.states) rows → ItemsFit names items →
     (v : Verdict) → Placed Ended v rows items → RecordsSound L.states names v count (padded blank_row m rows) (padded blank_item n items)
 ended_sound L names rows items m n count is lm ln rf if Included none =
     let e : length rows ≡ count = omega (arith, ap length none) in

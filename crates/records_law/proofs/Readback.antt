@@ -1,6 +1,6 @@
 -- What is written reads back.
 use Rattle.std.proofs.Common.{◌≡◌, ℕ, zero, suc, ◌+◌, ◌<◌, ◌≤◌, Bool, true, false, cond, ◌&&◌, ltb, List, [], ◌∷◌, ◌++◌, map, length, take, Ok, codes, decimal, sym, refl, ap, ◌∙◌, arith}
-use Rattle.std.specs.List.{AllByRecursion as All}
+use Rattle.std.specs.List.{AllByRecursion}
 use Rattle.std.proofs.lemmas.List.{append_assoc, append-nil, length-take-le}
 use Rattle.std.proofs.lemmas.Bool.{and_parts, ltb-true, false≢true}
 use Rattle.model.specs.declared.names.Name.{Name}
@@ -46,7 +46,7 @@ last_line L names f n m v e is few =
 
 -- rows, and then the end
 pub rows_run : (L : Limits) (names : List Name) → L.states ≤ 128 → L.room ≤ 512 → (rs : List Row) (f : Found) (n m : ℕ) →
-    f.at.stage ≡ Rows → f.at.count + length rs ≡ m → m ≤ L.room → All (λ r. row_fits L.states r ≡ true) rs →
+    f.at.stage ≡ Rows → f.at.count + length rs ≡ m → m ≤ L.room → AllByRecursion (λ r. row_fits L.states r ≡ true) rs →
     run L names f n (map row_bytes rs ++ line_bytes (codes "end") (decimal m) [] ∷ []) ≡ Ok (ended f.at m (f.rows ++ rs) f.items)
 rows_run L names st rm [] f n m e is le fit =
     last_line L names f n m Included e (omega arith) (omega arith) ∙ ap (λ l. Ok (ended f.at m l f.items)) (sym (append-nil f.rows))
@@ -83,7 +83,7 @@ fit_checked names (suc n) k (i ∷ is) e = go (item_fits names k i) refl e (fit_
     go false h x rec = let z : false ≡ true = cc in elim (false≢true z) [ ]
 
 -- the lines of records
-rows_lines : (states : ℕ) → states ≤ 128 → (rs : List Row) (rest : List ℕ) → All (λ r. row_fits states r ≡ true) rs → lines (all_texts row_text rs ++ rest) ≡ map row_bytes rs ++ lines rest
+rows_lines : (states : ℕ) → states ≤ 128 → (rs : List Row) (rest : List ℕ) → AllByRecursion (λ r. row_fits states r ≡ true) rs → lines (all_texts row_text rs ++ rest) ≡ map row_bytes rs ++ lines rest
 rows_lines states st [] rest fit = refl
 rows_lines states st (r ∷ rs) rest fit =
     let left : r.left < states = ltb-true _ _ (and_parts (ltb r.left states) _ fit.0).0 in

@@ -1,6 +1,6 @@
 -- A sheet of a grammar is within the limit of a text.
 use Rattle.std.proofs.Common.{◌≡◌, ℕ, zero, suc, ◌+◌, ◌-◌, ◌*◌, ◌^◌, ◌<◌, ◌≤◌, min, Bool, true, false, cond, ltb, List, [], ◌∷◌, ◌++◌, map, length, get_or, take, Ok, codes, decimal, refl, ap, ◌∙◌, ⊎_elim, arith}
-use Rattle.std.specs.List.{AllByRecursion as All}
+use Rattle.std.specs.List.{AllByRecursion}
 use Rattle.std.proofs.lemmas.Fmt.{length-decimal-le}
 use Rattle.std.proofs.lemmas.List.{length-append, length-take-le, get_or-append_right}
 use Rattle.std.proofs.lemmas.Bool.{and_parts, ltb-true, cases_lt, cond-false, or_from, ne_eqb, eq-eqb, le-ltb, not_from_true}
@@ -58,7 +58,7 @@ item_tight names k i few lt h =
       digits_few 3 i.next (omega arith) (omega arith) (omega arith),
     )
 
-all_tight : {X : Type 0} (f : X → List ℕ) (xs : List X) → All (λ x. length (f x) ≤ 430) xs → length (all_texts f xs) ≤ 430 * length xs
+all_tight : {X : Type 0} (f : X → List ℕ) (xs : List X) → AllByRecursion (λ x. length (f x) ≤ 430) xs → length (all_texts f xs) ≤ 430 * length xs
 all_tight f [] h = omega arith
 all_tight f (x ∷ xs) h = omega (arith, length-append (f x) (all_texts f xs), h.0, all_tight f xs h.1)
 

@@ -1,6 +1,6 @@
 -- The writing of lawful tables is read, and gives them.
 use Rattle.std.proofs.Common.{◌≡◌, ℕ, suc, ◌+◌, ◌-◌, ◌<◌, ◌≤◌, true, false, cond, ◌&&◌, ltb, leb, List, [], ◌∷◌, ◌++◌, map, length, get_or, IfOk, Ok, Err, codes, Result, sym, refl, ap, ◌∙◌, subst, ⊎_elim, append_assoc, append-nil, arith}
-use Rattle.std.specs.List.{AllByRecursion as All}
+use Rattle.std.specs.List.{AllByRecursion}
 use Rattle.std.specs.Str.{bytes_eq}
 use Rattle.std.proofs.ByRecursion.{All-append}
 use Rattle.std.proofs.lemmas.Slice.Eq.{bytes_eq-Decides}
@@ -34,7 +34,7 @@ use Rattle.tables_law.proofs.Sound.{grown_name, grown_under, grown_node, grown_r
 use Rattle.tables_law.proofs.Given.{Small, begin-given, name-given, under-given, node-given, rule-given, end-given}
 
 -- what holds of all holds of one in the middle
-all_at : {X : Type 0} (P : X → Type 0) (xs : List X) (y : X) (ys : List X) → All P (xs ++ y ∷ ys) → P y
+all_at : {X : Type 0} (P : X → Type 0) (xs : List X) (y : X) (ys : List X) → AllByRecursion P (xs ++ y ∷ ys) → P y
 all_at P [] y ys h = h.0
 all_at P (x ∷ xs) y ys h = all_at P xs y ys h.1
 
@@ -67,14 +67,14 @@ later_given o m a b c = and_from _ _ (and_from _ _ (le-leb _ _ a) (lt-ltb _ _ b)
 
 -- lines that are read and have no LF in them
 abbrev Done : Sketch → ℕ → List (List ℕ) → Plain → Type 0
-Done d n ls t = (read_lines d n ls ≡ Ok t) × All (λ l. lacks 10 l ≡ true) ls
+Done d n ls t = (read_lines d n ls ≡ Ok t) × AllByRecursion (λ l. lacks 10 l ≡ true) ls
 
 done_more : (d : Sketch) (n : ℕ) (l : List ℕ) (ls : List (List ℕ)) (f : Fact) (t : Plain) → (judged d (n + 1) l ≡ Ok f) × (lacks 10 l ≡ true) → Done (entered d f) (n + 1) ls t → Done d n (l ∷ ls) t
 done_more d n l ls f t j r = (ap (λ z. then z (λ g. read_lines (entered d g) (n + 1) ls)) j.0 ∙ r.0, (j.1, r.1))
 
 -- every mentioned rule is among n
 abbrev Within : ℕ → List Mention → Type 0
-Within n ms = All (λ (m : Mention). m.rule < n) ms
+Within n ms = AllByRecursion (λ (m : Mention). m.rule < n) ms
 
 present_given : (n : ℕ) (ms : List Mention) → Within n ms → present n ms ≡ Ok tt
 present_given n [] h = refl

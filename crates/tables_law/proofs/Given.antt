@@ -1,6 +1,6 @@
 -- A line that is written of a lawful entry is accepted and gives that entry.
 use Rattle.std.proofs.Common.{◌≡◌, ℕ, ◌<◌, true, false, cond, not, eqb, ltb, List, [], ◌∷◌, ◌++◌, length, Ok, Err, codes, decimal, Result, refl, ap, ◌∙◌}
-use Rattle.std.specs.List.{AllByRecursion as All}
+use Rattle.std.specs.List.{AllByRecursion}
 use Rattle.std.proofs.lemmas.Bool.{and_parts, and_from, lt-ltb, eq-eqb}
 use Rattle.model.specs.declared.names.Kind.{Kind}
 use Rattle.model.specs.declared.names.Kind.TheVariants as kinds
@@ -73,17 +73,17 @@ lacks_append : (m : ℕ) (xs ys : List ℕ) → lacks m xs ≡ true → lacks m 
 lacks_append m [] ys h g = g
 lacks_append m (x ∷ xs) ys h g = let p = and_parts (not (eqb x m)) (lacks m xs) h in and_from _ _ p.0 (lacks_append m xs ys p.1 g)
 
-lacks_commas : (fs : List (List ℕ)) → All Clean fs → lacks 10 (commas fs) ≡ true
+lacks_commas : (fs : List (List ℕ)) → AllByRecursion Clean fs → lacks 10 (commas fs) ≡ true
 lacks_commas [] h = refl
 lacks_commas (p ∷ []) h = h.0.1
 lacks_commas (p ∷ q ∷ ps) h = lacks_append 10 p (44 ∷ commas (q ∷ ps)) h.0.1 (lacks_commas (q ∷ ps) h.1)
 
-all_commas : (fs : List (List ℕ)) → All Clean fs → All (λ l. lacks 44 l ≡ true) fs
+all_commas : (fs : List (List ℕ)) → AllByRecursion Clean fs → AllByRecursion (λ l. lacks 44 l ≡ true) fs
 all_commas [] h = tt
 all_commas (p ∷ ps) h = (h.0.0, all_commas ps h.1)
 
 -- a line by its key
-pub line_given : (k : Key) (d : Sketch) (n : ℕ) (p : List ℕ) (ps : List (List ℕ)) (f : Fact) → All Clean (p ∷ ps) → allowed d.stage k ≡ true → keyed_line k d.tables n (p ∷ ps) ≡ Ok f
+pub line_given : (k : Key) (d : Sketch) (n : ℕ) (p : List ℕ) (ps : List (List ℕ)) (f : Fact) → AllByRecursion Clean (p ∷ ps) → allowed d.stage k ≡ true → keyed_line k d.tables n (p ∷ ps) ≡ Ok f
     → (judged d n (keyed (key_word k) (p ∷ ps)) ≡ Ok f) × (lacks 10 (keyed (key_word k) (p ∷ ps)) ≡ true)
 line_given k d n p ps f c a h = (
   lift_at (line_parts n (keyed (key_word k) (p ∷ ps))) (key n (key_word k), p ∷ ps) _ (parts_keyed n (key_word k) p ps (word_lacks k).0 (all_commas (p ∷ ps) c))

@@ -1,6 +1,6 @@
 -- What the tables keep while they are read, and so what read tables are.
 use Rattle.std.proofs.Common.{◌≡◌, ℕ, ◌+◌, ◌<◌, ◌≤◌, true, false, ◌&&◌, eqb, ltb, leb, List, [], ◌∷◌, ◌++◌, map, length, get_or, IfOk, Some, None, Ok, Err, Result, sym, refl, ap, ◌∙◌, subst, ⊎_elim, arith}
-use Rattle.std.specs.List.{ContainsAt as Has, AllByRecursion as All}
+use Rattle.std.specs.List.{ContainsAt as Has, AllByRecursion}
 use Rattle.std.proofs.ByRecursion.{All-push, All-weaker, all-has, All-map, has_append_left, has_push}
 use Rattle.std.proofs.lemmas.List.{length_push, length-set, get_or_push, get_or_append_left, map_push, map-append}
 use Rattle.std.proofs.lemmas.Bool.{and_parts, leb-true, eqb-true}
@@ -37,7 +37,7 @@ Noted xs ms = (i k : ℕ) → i < length xs → get_or xs i Nothing ≡ Rule k �
 record NamesGood (ns : List Name) (spellings : List (List ℕ)) : Type 0 where
   few : length ns ≤ 64
   spelled : length spellings ≡ length ns
-  formed : All (λ s. is_spelling s ≡ true) spellings
+  formed : AllByRecursion (λ s. is_spelling s ≡ true) spellings
   apart : Apart spellings
   heads : Headed ns
 
@@ -52,9 +52,9 @@ record RulesGood (count : ℕ) (bodies : List ℕ) (rules : List (List ℕ)) (li
   few : length bodies ≤ 32
   spelled : length rules ≡ length bodies
   numbered : length lined ≡ length bodies
-  formed : All (λ s. is_spelling s ≡ true) rules
+  formed : AllByRecursion (λ s. is_spelling s ≡ true) rules
   apart : Apart rules
-  inside : All (λ b. b < count) bodies
+  inside : AllByRecursion (λ b. b < count) bodies
 
 -- what the tables keep: no node comes before the names and their heads are there
 record Good (d : Sketch) : Type 0 where

@@ -1,6 +1,6 @@
 -- What one entry more keeps, place by place.
 use Rattle.std.proofs.Common.{◌≡◌, ℕ, zero, suc, ◌<◌, Bool, true, false, cond, ltb, ◌⊎◌, List, [], ◌∷◌, ◌++◌, length, get_or, Some, None, Ok, Err, sym, refl, ap, ◌∙◌, inl, inr, ⊎_elim, arith}
-use Rattle.std.specs.List.{AllByRecursion as All}
+use Rattle.std.specs.List.{AllByRecursion}
 use Rattle.std.specs.Str.{bytes_eq}
 use Rattle.std.proofs.lemmas.Slice.Eq.{bytes_eq-Decides}
 use Rattle.std.proofs.lemmas.List.{length_push, length-set, get_or_push, get_or_append_left, get_or-set_same, get_or-set_other}
@@ -95,10 +95,10 @@ standing_more ns xs x a h i l =
     (push_cases xs x i l)
 
 -- mentions that are present
-present_by : (n : ℕ) (m : Mention) (ms : List Mention) (u : Unit {0}) (b : Bool) → ltb m.rule n ≡ b → cond b (present n ms) (Err (Place m.line)) ≡ Ok u → (present n ms ≡ Ok u → All (λ (k : Mention). k.rule < n) ms) → (m.rule < n) × All (λ (k : Mention). k.rule < n) ms
+present_by : (n : ℕ) (m : Mention) (ms : List Mention) (u : Unit {0}) (b : Bool) → ltb m.rule n ≡ b → cond b (present n ms) (Err (Place m.line)) ≡ Ok u → (present n ms ≡ Ok u → AllByRecursion (λ (k : Mention). k.rule < n) ms) → (m.rule < n) × AllByRecursion (λ (k : Mention). k.rule < n) ms
 present_by n m ms u true e h g = (ltb-true _ _ e, g h)
 present_by n m ms u false e h g = absurd (no_ok h)
 
-pub present_all : (n : ℕ) (ms : List Mention) (u : Unit {0}) → present n ms ≡ Ok u → All (λ (m : Mention). m.rule < n) ms
+pub present_all : (n : ℕ) (ms : List Mention) (u : Unit {0}) → present n ms ≡ Ok u → AllByRecursion (λ (m : Mention). m.rule < n) ms
 present_all n [] u h = tt
 present_all n (m ∷ ms) u h = present_by n m ms u (ltb m.rule n) refl h (present_all n ms u)

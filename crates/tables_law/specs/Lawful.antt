@@ -1,6 +1,6 @@
 -- Lawful tables: within their limits, and each number at a place where it may stand.
 use Rattle.std.specs.Prelude.{◌≡◌, ℕ, ◌<◌, ◌≤◌, true, List, [], length, get_or, Some, ◌≢◌, slice_index_or}
-use Rattle.std.specs.List.{AllByRecursion as All}
+use Rattle.std.specs.List.{AllByRecursion}
 use Rattle.model.specs.declared.names.Name.{Name}
 use Rattle.model.specs.declared.nodes.Node.{Node}
 use Rattle.model.specs.declared.nodes.Node.TheVariants.{Nothing, Rule}
@@ -28,11 +28,11 @@ pub record Lawful (t : Plain) : Type 0 where
   pub names_spelled : length t.spellings ≡ length t.names
   pub rules_spelled : length t.rules ≡ length t.bodies
   pub rules_lined : length t.rule_lines ≡ length t.bodies
-  pub names_formed : All (λ s. is_spelling s ≡ true) t.spellings
-  pub rules_formed : All (λ s. is_spelling s ≡ true) t.rules
+  pub names_formed : AllByRecursion (λ s. is_spelling s ≡ true) t.spellings
+  pub rules_formed : AllByRecursion (λ s. is_spelling s ≡ true) t.rules
   pub names_apart : Apart t.spellings
   pub rules_apart : Apart t.rules
   pub heads : Headed t.names
   pub standing : Standing t.names t.nodes
-  pub bodies_in : All (λ b. b < length t.nodes) t.bodies
+  pub bodies_in : AllByRecursion (λ b. b < length t.nodes) t.bodies
   pub mentions_in : (i k : ℕ) → i < length t.nodes → slice_index_or t.nodes i Nothing ≡ Rule k → k < length t.bodies

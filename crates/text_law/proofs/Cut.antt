@@ -1,6 +1,6 @@
 -- Lines, fields and keys: cut apart and put together again.
 use Rattle.std.proofs.Common.{◌≡◌, ℕ, suc, ◌-◌, ◌<◌, ◌≤◌, Bool, true, false, cond, not, eqb, List, [], ◌∷◌, ◌++◌, length, get_or, Some, None, Ok, Err, Option, sym, refl, ap, ◌∙◌, arith}
-use Rattle.std.specs.List.{AllByRecursion as All}
+use Rattle.std.specs.List.{AllByRecursion}
 use Rattle.std.proofs.lemmas.Bool.{eq-eqb, eqb-true, and_parts, not-true, true≢false, or_parts, not-false, ltb-false, eqb-false, and_from, not_from_false}
 use Rattle.text.specs.declared.fault.LineFault.{LineFault}
 use Rattle.text.specs.declared.fault.LineFault.TheVariants.{Form}
@@ -86,11 +86,11 @@ pieces_last m (x ∷ l) h =
     let f = front x m l h in
     ap (λ b. cond b ([] ∷ pieces m ([] ∷ []) l) (onto x (pieces m ([] ∷ []) l))) f.0 ∙ ap (onto x) (pieces_last m l f.1)
 
-pub lines_written : (ls : List (List ℕ)) → All (λ l. lacks 10 l ≡ true) ls → lines (written ls) ≡ ls
+pub lines_written : (ls : List (List ℕ)) → AllByRecursion (λ l. lacks 10 l ≡ true) ls → lines (written ls) ≡ ls
 lines_written [] h = refl
 lines_written (l ∷ ls) h = pieces_cut 10 [] l (written ls) h.0 ∙ ap (λ k. l ∷ k) (lines_written ls h.1)
 
-pub fields_commas : (p : List ℕ) (ps : List (List ℕ)) → All (λ l. lacks 44 l ≡ true) (p ∷ ps) → fields (commas (p ∷ ps)) ≡ p ∷ ps
+pub fields_commas : (p : List ℕ) (ps : List (List ℕ)) → AllByRecursion (λ l. lacks 44 l ≡ true) (p ∷ ps) → fields (commas (p ∷ ps)) ≡ p ∷ ps
 fields_commas p [] h = pieces_last 44 p h.0
 fields_commas p (q ∷ ps) h = pieces_cut 44 ([] ∷ []) p (commas (q ∷ ps)) h.0 ∙ ap (λ k. p ∷ k) (fields_commas q ps h.1)
 
@@ -107,7 +107,7 @@ after_cut m (x ∷ l) rest h =
     let f = front x m l h in
     ap (λ b. cond b (Some (l ++ m ∷ rest)) (after m (l ++ m ∷ rest))) f.0 ∙ after_cut m l rest f.1
 
-pub parts_keyed : (n : ℕ) (k : List ℕ) (p : List ℕ) (ps : List (List ℕ)) → lacks 61 k ≡ true → All (λ l. lacks 44 l ≡ true) (p ∷ ps) → line_parts n (keyed k (p ∷ ps)) ≡ Ok (key n k, p ∷ ps)
+pub parts_keyed : (n : ℕ) (k : List ℕ) (p : List ℕ) (ps : List (List ℕ)) → lacks 61 k ≡ true → AllByRecursion (λ l. lacks 44 l ≡ true) (p ∷ ps) → line_parts n (keyed k (p ∷ ps)) ≡ Ok (key n k, p ∷ ps)
 parts_keyed n k p ps h a =
     ap (λ o. parts_at n (before 61 (keyed k (p ∷ ps))) o) (after_cut 61 k (commas (p ∷ ps)) h) ∙ ap (λ b. Ok (key n b, fields (commas (p ∷ ps)))) (before_cut 61 k (commas (p ∷ ps)) h) ∙ ap (λ fs. Ok (key n k, fs)) (fields_commas p ps a)
 

@@ -1,7 +1,7 @@
 -- A sheet that is written is not too long to be counted, and all its records have places.
 use Rattle.std.proofs.Common.{◌≡◌, ℕ, zero, suc, ◌+◌, ◌*◌, ◌/◌, ◌%◌, ◌^◌, ◌<◌, ◌≤◌, Bool, true, false, cond, ◌&&◌, eqb, leb, List, [], ◌∷◌, map, length, take, Ok, Err, codes, decimal, refl, ap, ◌∙◌, arith}
 use Rattle.std.specs.Fmt.{digits, digits_onto, digit_glyph}
-use Rattle.std.specs.List.{AllByRecursion as All}
+use Rattle.std.specs.List.{AllByRecursion}
 use Rattle.std.proofs.lemmas.List.{length-append, length-take-le}
 use Rattle.std.proofs.lemmas.Bool.{and_parts, leb-true, eqb-true, false≢true, le-leb, lt-leb, cond-true, cond-false}
 use Rattle.model.specs.declared.names.Name.{Name}
@@ -60,14 +60,14 @@ all_short f h (x ∷ xs) = omega (arith, length-append (f x) (all_texts f xs), h
 
 -- records that pass their checks have places, and fit them
 pub places_ok : {X : Type 0} (fits : ℕ → X → Bool) (P : X → Type 0) (most : ℕ) → ((k : ℕ) (x : X) → k < most → fits k x ≡ true → P x) →
-    (n k : ℕ) (xs : List X) → k + length xs ≤ most → places_checked fits k n xs ≡ Ok tt → All P (take n xs) × (n ≤ length xs)
+    (n k : ℕ) (xs : List X) → k + length xs ≤ most → places_checked fits k n xs ≡ Ok tt → AllByRecursion P (take n xs) × (n ≤ length xs)
 places_ok fits P most given zero k xs h e = (tt, omega arith)
 places_ok fits P most given (suc n) k [] h e = let z : false ≡ true = cc in elim (false≢true z) [ ]
 places_ok fits P most given (suc n) k (x ∷ xs) h e =
     go (fits k x) refl e (places_ok fits P most given n (k + 1) xs (omega arith))
   where
     go : (b : Bool) → fits k x ≡ b → cond b (places_checked fits (k + 1) n xs) (misplaced (k + 3)) ≡ Ok tt →
-        (places_checked fits (k + 1) n xs ≡ Ok tt → All P (take n xs) × (n ≤ length xs)) → All P (take (suc n) (x ∷ xs)) × (suc n ≤ length (x ∷ xs))
+        (places_checked fits (k + 1) n xs ≡ Ok tt → AllByRecursion P (take n xs) × (n ≤ length xs)) → AllByRecursion P (take (suc n) (x ∷ xs)) × (suc n ≤ length (x ∷ xs))
     go true is h' rec = let r = rec h' in ((given k x (omega arith) is, r.0), omega (arith, r.1))
     go false is h' rec = let z : false ≡ true = cc in elim (false≢true z) [ ]
 
