@@ -128,10 +128,6 @@ unfolding AllIn
 entered_trees nodes fine list ds p q =
     entered_map (as_trees nodes) same_derivative same_derived (InBook (length nodes)) (same_told nodes fine) list ds p q
 
-pub map-append : {A B : Type 0} (f : A → B) (xs ys : List A) → map f (xs ++ ys) ≡ map f xs ++ map f ys
-map-append f [] ys = refl
-map-append f (x ∷ xs) ys = ap (λ l. f x ∷ l) (map-append f xs ys)
-
 -- the derivatives of a number
 
 ders_follow : (bodies : ℕ → Expr) (n r k : ℕ) →

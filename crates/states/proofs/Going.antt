@@ -1,6 +1,6 @@
 -- The work on derivatives as it goes on.
 use Rattle.std.proofs.Common.{◌≡◌, ℕ, ◌+◌, ◌*◌, ◌<◌, ◌≤◌, Bool, true, false, cond, List, [], ◌∷◌, ◌++◌, map, length, get_or, drop, set, Some, None, vec_items, Option, sym, refl, ap, ◌∙◌, subst, ap₂, ⊎_elim, append_assoc, append-nil, arith}
-use Rattle.std.proofs.lemmas.List.{length-append, drop_at, get_or_append_left, get_or-set_same, get_or-set_other, get_or_default, set_past}
+use Rattle.std.proofs.lemmas.List.{length-append, drop_at, get_or_append_left, get_or-set_same, get_or-set_other, get_or_default, set_past, map-append}
 use Rattle.std.proofs.lemmas.Bool.{cases_eq, cases_lt, cond-true, cond-false, lt-ltb}
 use Rattle.model.specs.declared.nodes.Node.{Node}
 use Rattle.model.specs.declared.nodes.Node.TheVariants.{Nothing, Simple, Rule, Element, Union, Seq, Star}
@@ -14,7 +14,7 @@ use Rattle.expressions.specs.Records.{same_derivative}
 use Rattle.expressions.specs.Fine.{PartsBelow, Founded, Fine, Below, Grows}
 use Rattle.expressions.specs.Derived.{part, as_trees, AllIn, ders_at, ders_node}
 use Rattle.expressions.proofs.Fine.{grows_same, grows_on, grows_tree, grows_long, below_more}
-use Rattle.expressions.proofs.Ders.{part_none, part_old, part_new, all_part, all_none, all_one, all_append, all_entered, all_grows, trees_grow, entered_trees, map-append, ders_step, nulls_grow, ders_grow}
+use Rattle.expressions.proofs.Ders.{part_none, part_old, part_new, all_part, all_none, all_one, all_append, all_entered, all_grows, trees_grow, entered_trees, ders_step, nulls_grow, ders_grow}
 use Rattle.states.specs.declared.nullable.Known.{Known}
 use Rattle.states.specs.declared.nullable.Known.TheVariants.{Unknown, No, Yes}
 use Rattle.states.specs.declared.derive.Span.{Span}

@@ -31,7 +31,7 @@ use Rattle.tables_law.specs.Source.{Named, Under, Ruled, Source, name_text, unde
 use Rattle.text_law.proofs.Cases.{same_ok, no_ok}
 use Rattle.tables_law.proofs.Places.{may_parts}
 use Rattle.tables_law.proofs.Sound.{grown_name, grown_under, grown_node, grown_rule, grown_none, read_writes}
-use Rattle.tables_law.proofs.Given.{Small, begin-given, name-given, under-given, node-given, rule-given, end-given}
+use Rattle.tables_law.proofs.Given.{Small, begin_given, name_given, under_given, node_given, rule_given, end_given}
 
 -- what holds of all holds of one in the middle
 all_at : {X : Type 0} (P : X → Type 0) (xs : List X) (y : X) (ys : List X) → AllByRecursion P (xs ++ y ∷ ys) → P y
@@ -117,7 +117,7 @@ rules_done [] d n o u m w =
     let len = length-append p.bodies [] in
     let small : c < 1000000000 = omega arith in
     done_more d n (end_text c) [] end (grown p (n + 1) [] [] [] [])
-    (end-given d (n + 1) c (later_given (order d.stage) 5 o (omega arith) (omega arith)) small same)
+    (end_given d (n + 1) c (later_given (order d.stage) 5 o (omega arith) (omega arith)) small same)
     (ap (λ z. then z (λ _. Ok p)) (present_given (length p.bodies) d.mentions (within_at c (length p.bodies) d.mentions same m)) ∙ ap Ok (sym (grown_none p (n + 1))), tt)
 rules_done (r ∷ rs) d n o u m w =
     let p = d.tables in
@@ -129,7 +129,7 @@ rules_done (r ∷ rs) d n o u m w =
     let inside : r.1 < length (p.nodes ++ []) = all_at (λ b. b < length (p.nodes ++ [])) p.bodies r.1 (map body_of rs) w.bodies_in in
     let one = length_push p.bodies r.1 in
     let e : length (p.bodies ++ r.1 ∷ []) + length rs ≡ length p.bodies + length (r ∷ rs) = omega arith in
-    let j = rule-given d (n + 1) r (later_given (order d.stage) 4 o (omega arith) u) (omega arith) (omega arith) (all_at (λ s. is_spelling s ≡ true) p.rules r.0 (map rule_spelling rs) w.rules_formed) (apart_not p.rules (map rule_spelling rs) r.0 w.rules_apart) (omega arith) in
+    let j = rule_given d (n + 1) r (later_given (order d.stage) 4 o (omega arith) u) (omega arith) (omega arith) (all_at (λ s. is_spelling s ≡ true) p.rules r.0 (map rule_spelling rs) w.rules_formed) (apart_not p.rules (map rule_spelling rs) r.0 w.rules_apart) (omega arith) in
     let q = rules_done rs (entered d f) (n + 1) (omega arith) (omega arith) (within_at _ _ d.mentions (sym e) m) (subst Lawful (sym (grown_rule p (n + 1) r rs)) w) in
     done_more d n (rule_text r) (map rule_text rs ++ end_text (length p.bodies + length (r ∷ rs)) ∷ []) f (grown p (n + 1) [] [] [] (r ∷ rs)) j
     (subst (λ (t : Plain). Done (entered d f) (n + 1) (map rule_text rs ++ end_text (length p.bodies + length (r ∷ rs)) ∷ []) t) (grown_rule p (n + 1) r rs)
@@ -154,7 +154,7 @@ nodes_done (x ∷ xs) rs d n o u m w =
     let counted : length (p.bodies ++ map body_of rs) ≡ length p.bodies + length rs = length-append p.bodies (map body_of rs) ∙ ap (λ k. length p.bodies + k) (length-map rs body_of) in
     let said : (k : ℕ) → x ≡ Rule k → k < length (p.bodies ++ map body_of rs) = λ k e. w.mentions_in c k at (got ∙ e) in
     let small = small_node p.names c x may (omega arith) (omega arith) (λ k e. omega (arith, said k e)) in
-    let j = node-given d (n + 1) x (later_given (order d.stage) 3 o (omega arith) u) small (omega arith) may in
+    let j = node_given d (n + 1) x (later_given (order d.stage) 3 o (omega arith) u) small (omega arith) may in
     let q = nodes_done xs rs (entered d f) (n + 1) (omega arith) (omega arith) (All-append (λ (k : Mention). k.rule < length p.bodies + length rs) d.mentions (mentioned x (n + 1)) m (mentioned_within x (n + 1) (length p.bodies + length rs) (λ k e. omega (arith, said k e)))) (subst Lawful (sym (grown_node p (n + 1) x (n + 1) xs rs)) w) in
     done_more d n (node_text x) (map node_text xs ++ (map rule_text rs ++ end_text (length p.bodies + length rs) ∷ [])) f (grown p (n + 1) [] [] (x ∷ xs) rs) j
     (subst (λ (t : Plain). Done (entered d f) (n + 1) (map node_text xs ++ (map rule_text rs ++ end_text (length p.bodies + length rs) ∷ [])) t) (grown_node p (n + 1) x (n + 1) xs rs) q)
@@ -172,7 +172,7 @@ unders_done (v ∷ us) xs rs d n o u m g w =
     let b = may_parts p.names v.0 v.1 g.0 in
     let low : v.0 < length p.names = b.0 in
     let lower : v.1 < v.0 = b.1 in
-    let j = under-given d (n + 1) v (later_given (order d.stage) 2 o (omega arith) u) (omega arith) (omega arith) g.0 in
+    let j = under_given d (n + 1) v (later_given (order d.stage) 2 o (omega arith) u) (omega arith) (omega arith) g.0 in
     let q = unders_done us xs rs (entered d f) (n + 1) (omega arith) (omega arith) m g.1 (subst Lawful (sym (grown_under p (n + 1) v us xs rs)) w) in
     done_more d n (under_text v) (sections (length p.bodies) [] us xs rs) f (grown p (n + 1) [] (v ∷ us) xs rs) j
     (subst (λ (t : Plain). Done (entered d f) (n + 1) (sections (length p.bodies) [] us xs rs) t) (grown_under p (n + 1) v us xs rs) q)
@@ -187,7 +187,7 @@ names_done (x ∷ ns) us xs rs d n o u m g w =
     let names : length (with_heads (p.names ++ (headless x ∷ map headless ns)) us) ≤ 64 = w.few_names in
     let len = length_heads us (p.names ++ (headless x ∷ map headless ns)) in
     let named = length-append p.names (headless x ∷ map headless ns) in
-    let j = name-given d (n + 1) x (later_given (order d.stage) 1 o (omega arith) u) (omega arith) (all_at (λ s. is_spelling s ≡ true) p.spellings x.1 (map spelling_of ns) w.names_formed) (apart_not p.spellings (map spelling_of ns) x.1 w.names_apart) in
+    let j = name_given d (n + 1) x (later_given (order d.stage) 1 o (omega arith) u) (omega arith) (all_at (λ s. is_spelling s ≡ true) p.spellings x.1 (map spelling_of ns) w.names_formed) (apart_not p.spellings (map spelling_of ns) x.1 w.names_apart) in
     let q = names_done ns us xs rs (entered d f) (n + 1) (omega arith) (omega arith) m (subst (λ (l : List Name). GivenHeads l us) (sym (append_assoc p.names (headless x ∷ []) (map headless ns))) g) (subst Lawful (sym (grown_name p (n + 1) x ns us xs rs)) w) in
     done_more d n (name_text x) (sections (length p.bodies) ns us xs rs) f (grown p (n + 1) (x ∷ ns) us xs rs) j
     (subst (λ (t : Plain). Done (entered d f) (n + 1) (sections (length p.bodies) ns us xs rs) t) (grown_name p (n + 1) x ns us xs rs) q)
@@ -215,7 +215,7 @@ complete s few g w =
     let first = keyed (codes "grammar") (codes "1" ∷ []) in
     let ls = sections 0 s.names s.unders s.nodes s.rules in
     let q = names_done s.names s.unders s.nodes s.rules (entered blank begin) 1 (omega arith) (omega arith) tt g w in
-    let d : Done blank 0 (first ∷ ls) (tables_of s) = done_more blank 0 first ls begin (tables_of s) (begin-given blank 1 refl) q in
+    let d : Done blank 0 (first ∷ ls) (tables_of s) = done_more blank 0 first ls begin (tables_of s) (begin_given blank 1 refl) q in
     ap (λ z. then (lift z) (λ _. read_lines blank 0 (lines (text_of s)))) (whole_given (text_of s) 65536 (some_written first ls) few (last_written first ls))
     ∙ ap (read_lines blank 0) (lines_written (first ∷ ls) d.1)
     ∙ d.0

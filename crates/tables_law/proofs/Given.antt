@@ -103,28 +103,28 @@ two_given n a b h g = then_at (value_in (number n (decimal a))) a _ (value_given
 one_given : (n a : ℕ) → a < 1000000000 → values_in (one (number n (decimal a))) ≡ Ok (a, 0)
 one_given n a h = then_at (value_in (number n (decimal a))) a (λ x. Ok (x, 0)) (value_given n a h)
 
-pub begin-given : (d : Sketch) (n : ℕ) → allowed d.stage keys.Grammar ≡ true → (judged d n (keyed (codes "grammar") (codes "1" ∷ [])) ≡ Ok begin) × (lacks 10 (keyed (codes "grammar") (codes "1" ∷ [])) ≡ true)
-begin-given d n a = line_given keys.Grammar d n (codes "1") [] begin ((refl, refl), tt) a refl
+pub begin_given : (d : Sketch) (n : ℕ) → allowed d.stage keys.Grammar ≡ true → (judged d n (keyed (codes "grammar") (codes "1" ∷ [])) ≡ Ok begin) × (lacks 10 (keyed (codes "grammar") (codes "1" ∷ [])) ≡ true)
+begin_given d n a = line_given keys.Grammar d n (codes "1") [] begin ((refl, refl), tt) a refl
 
-pub name-given : (d : Sketch) (n : ℕ) (x : Named) → allowed d.stage keys.Name ≡ true → length d.tables.names < 64 → is_spelling x.1 ≡ true → has x.1 d.tables.spellings ≡ false
+pub name_given : (d : Sketch) (n : ℕ) (x : Named) → allowed d.stage keys.Name ≡ true → length d.tables.names < 64 → is_spelling x.1 ≡ true → has x.1 d.tables.spellings ≡ false
     → (judged d n (name_text x) ≡ Ok (name x.0 x.1)) × (lacks 10 (name_text x) ≡ true)
-name-given d n x a few formed new =
+name_given d n x a few formed new =
     line_given keys.Name d n (kind_word x.0) (x.1 ∷ []) (name x.0 x.1) (clean_kind x.0, (clean_spelling x.1 formed, tt)) a
     (lift_at (kind_in (key n (kind_word x.0))) x.0 _ (kind_given n x.0)
     ∙ then_at (room 64 (length d.tables.names) n) tt _ (ap (λ b. cond b (Ok tt) (Err (Full n))) (lt-ltb _ _ few))
     ∙ lift_at (spelling_in (spelling n x.1)) x.1 _ (ap (λ b. cond b (Ok x.1) (Err (BadSpelling n))) formed)
     ∙ ap (λ b. then (lift (cond b (Err (BadSpelling n)) (Ok tt))) (λ _. Ok (name x.0 x.1))) new)
 
-pub under-given : (d : Sketch) (n : ℕ) (u : Under) → allowed d.stage keys.Under ≡ true → u.0 < 1000000000 → u.1 < 1000000000 → may_head d.tables.names u.0 u.1 ≡ true
+pub under_given : (d : Sketch) (n : ℕ) (u : Under) → allowed d.stage keys.Under ≡ true → u.0 < 1000000000 → u.1 < 1000000000 → may_head d.tables.names u.0 u.1 ≡ true
     → (judged d n (under_text u) ≡ Ok (under u.0 u.1)) × (lacks 10 (under_text u) ≡ true)
-under-given d n u a st sh may =
+under_given d n u a st sh may =
     line_given keys.Under d n (decimal u.0) (decimal u.1 ∷ []) (under u.0 u.1) (clean_decimal u.0 st, (clean_decimal u.1 sh, tt)) a
     (lift_at (values_in (two (number n (decimal u.0)) (number n (decimal u.1)))) (u.0, u.1) _ (two_given n u.0 u.1 st sh)
     ∙ ap (λ b. then (place b n) (λ _. Ok (under u.0 u.1))) may)
 
-pub rule-given : (d : Sketch) (n : ℕ) (r : Ruled) → allowed d.stage keys.Rule ≡ true → length d.tables.bodies < 32 → r.1 < 1000000000 → is_spelling r.0 ≡ true → has r.0 d.tables.rules ≡ false → r.1 < length d.tables.nodes
+pub rule_given : (d : Sketch) (n : ℕ) (r : Ruled) → allowed d.stage keys.Rule ≡ true → length d.tables.bodies < 32 → r.1 < 1000000000 → is_spelling r.0 ≡ true → has r.0 d.tables.rules ≡ false → r.1 < length d.tables.nodes
     → (judged d n (rule_text r) ≡ Ok (rule r.0 r.1 n)) × (lacks 10 (rule_text r) ≡ true)
-rule-given d n r a few small formed new body =
+rule_given d n r a few small formed new body =
     line_given keys.Rule d n r.0 (decimal r.1 ∷ []) (rule r.0 r.1 n) (clean_spelling r.0 formed, (clean_decimal r.1 small, tt)) a
     (then_at (room 32 (length d.tables.bodies) n) tt _ (ap (λ b. cond b (Ok tt) (Err (Full n))) (lt-ltb _ _ few))
     ∙ lift_at (value_in (number n (decimal r.1))) r.1 _ (value_given n r.1 small)
@@ -132,8 +132,8 @@ rule-given d n r a few small formed new body =
     ∙ ap (λ b. then (lift (cond b (Err (BadSpelling n)) (Ok tt))) (λ _. then (place (ltb r.1 (length d.tables.nodes)) n) (λ _. Ok (rule r.0 r.1 n)))) new
     ∙ ap (λ b. then (place b n) (λ _. Ok (rule r.0 r.1 n))) (lt-ltb _ _ body))
 
-pub end-given : (d : Sketch) (n c : ℕ) → allowed d.stage keys.End ≡ true → c < 1000000000 → c ≡ length d.tables.bodies → (judged d n (end_text c) ≡ Ok end) × (lacks 10 (end_text c) ≡ true)
-end-given d n c a small same =
+pub end_given : (d : Sketch) (n c : ℕ) → allowed d.stage keys.End ≡ true → c < 1000000000 → c ≡ length d.tables.bodies → (judged d n (end_text c) ≡ Ok end) × (lacks 10 (end_text c) ≡ true)
+end_given d n c a small same =
     line_given keys.End d n (decimal c) [] end (clean_decimal c small, tt) a
     (lift_at (values_in (one (number n (decimal c)))) (c, 0) _ (one_given n c small)
     ∙ ap (λ b. then (place b n) (λ _. Ok end)) (eq-eqb _ _ same))
@@ -157,22 +157,22 @@ node_ends d n g ns a b e few may =
     ∙ ap (λ z. then (lift z) (λ v. then (place (may_stand d.tables.names (length d.tables.nodes) (g v.0 v.1)) n) (λ _. Ok (node (g v.0 v.1) n)))) e
     ∙ ap (λ c. then (place c n) (λ _. Ok (node (g a b) n))) may
 
-pub node-given : (d : Sketch) (n : ℕ) (x : Node) → allowed d.stage keys.Node ≡ true → Small x → length d.tables.nodes < 256 → may_stand d.tables.names (length d.tables.nodes) x ≡ true
+pub node_given : (d : Sketch) (n : ℕ) (x : Node) → allowed d.stage keys.Node ≡ true → Small x → length d.tables.nodes < 256 → may_stand d.tables.names (length d.tables.nodes) x ≡ true
     → (judged d n (node_text x) ≡ Ok (node x n)) × (lacks 10 (node_text x) ≡ true)
-node-given d n Nothing a small few may = line_given keys.Node d n (codes "none") [] (node Nothing n) ((refl, refl), tt) a (node_ends d n (λ _ _. Nothing) none 0 0 refl few may)
-node-given d n Empty a small few may = line_given keys.Node d n (codes "empty") [] (node Empty n) ((refl, refl), tt) a (node_ends d n (λ _ _. Empty) none 0 0 refl few may)
-node-given d n (Simple m) a small few may =
+node_given d n Nothing a small few may = line_given keys.Node d n (codes "none") [] (node Nothing n) ((refl, refl), tt) a (node_ends d n (λ _ _. Nothing) none 0 0 refl few may)
+node_given d n Empty a small few may = line_given keys.Node d n (codes "empty") [] (node Empty n) ((refl, refl), tt) a (node_ends d n (λ _ _. Empty) none 0 0 refl few may)
+node_given d n (Simple m) a small few may =
     line_given keys.Node d n (codes "simple") (decimal m ∷ []) (node (Simple m) n) ((refl, refl), (clean_decimal m small, tt)) a (node_ends d n (λ p _. Simple p) (one (number n (decimal m))) m 0 (one_given n m small) few may)
-node-given d n (Rule m) a small few may =
+node_given d n (Rule m) a small few may =
     line_given keys.Node d n (codes "rule") (decimal m ∷ []) (node (Rule m) n) ((refl, refl), (clean_decimal m small, tt)) a (node_ends d n (λ p _. Rule p) (one (number n (decimal m))) m 0 (one_given n m small) few may)
-node-given d n (Star m) a small few may =
+node_given d n (Star m) a small few may =
     line_given keys.Node d n (codes "star") (decimal m ∷ []) (node (Star m) n) ((refl, refl), (clean_decimal m small, tt)) a (node_ends d n (λ p _. Star p) (one (number n (decimal m))) m 0 (one_given n m small) few may)
-node-given d n (Element p q) a small few may =
+node_given d n (Element p q) a small few may =
     line_given keys.Node d n (codes "element") (decimal p ∷ decimal q ∷ []) (node (Element p q) n) ((refl, refl), (clean_decimal p small.0, (clean_decimal q small.1, tt))) a
     (node_ends d n Element (two (number n (decimal p)) (number n (decimal q))) p q (two_given n p q small.0 small.1) few may)
-node-given d n (Union p q) a small few may =
+node_given d n (Union p q) a small few may =
     line_given keys.Node d n (codes "union") (decimal p ∷ decimal q ∷ []) (node (Union p q) n) ((refl, refl), (clean_decimal p small.0, (clean_decimal q small.1, tt))) a
     (node_ends d n Union (two (number n (decimal p)) (number n (decimal q))) p q (two_given n p q small.0 small.1) few may)
-node-given d n (Seq p q) a small few may =
+node_given d n (Seq p q) a small few may =
     line_given keys.Node d n (codes "seq") (decimal p ∷ decimal q ∷ []) (node (Seq p q) n) ((refl, refl), (clean_decimal p small.0, (clean_decimal q small.1, tt))) a
     (node_ends d n Seq (two (number n (decimal p)) (number n (decimal q))) p q (two_given n p q small.0 small.1) few may)
