@@ -65,17 +65,17 @@ Written t m (Some x) room e = (e.reply ≡ write_reply (written_as t m x (lent_r
 
 -- A question: refused exactly by the tests of what it is given, all blank; else answered by the definition.
 abbrev pub QuestionTold : Plain → Machine → ℕ → ℕ → ℕ → ℕ → Reply → List Row → List Item → Type 0
-QuestionTold t m a b rows items (Answered x) row_List item_list =
-    (question_checked (rules_of t) a b rows items ≡ Ok tt) × AnsweredSo m (root_of a b) rows items x row_List item_list
-QuestionTold t m a b rows items (Refused f) row_List item_list =
-    (question_checked (rules_of t) a b rows items ≡ Err f) × Blanked (lent rows) (lent items) row_List item_list
-QuestionTold t m a b rows items (Accepted s) row_List item_list = ⊥
-QuestionTold t m a b rows items (Tested x) row_List item_list = ⊥
-QuestionTold t m a b rows items (Wrote n) row_List item_list = ⊥
-QuestionTold t m a b rows items Nothing row_List item_list = ⊥
-QuestionTold t m a b rows items (LookedUp s) row_List item_list = ⊥
-QuestionTold t m a b rows items Cleared row_List item_list = ⊥
-QuestionTold t m a b rows items (Declined f) row_List item_list = ⊥
+QuestionTold t m a b rows items (Answered x) row_list item_list =
+    (question_checked (rules_of t) a b rows items ≡ Ok tt) × AnsweredSo m (root_of a b) rows items x row_list item_list
+QuestionTold t m a b rows items (Refused f) row_list item_list =
+    (question_checked (rules_of t) a b rows items ≡ Err f) × Blanked (lent rows) (lent items) row_list item_list
+QuestionTold t m a b rows items (Accepted s) row_list item_list = ⊥
+QuestionTold t m a b rows items (Tested x) row_list item_list = ⊥
+QuestionTold t m a b rows items (Wrote n) row_list item_list = ⊥
+QuestionTold t m a b rows items Nothing row_list item_list = ⊥
+QuestionTold t m a b rows items (LookedUp s) row_list item_list = ⊥
+QuestionTold t m a b rows items Cleared row_list item_list = ⊥
+QuestionTold t m a b rows items (Declined f) row_list item_list = ⊥
 
 -- Refusals and answers: each call is refused exactly where the rules say so, with the fault that they give, and else
 -- answered as they say; what it leaves is theirs too. `before` is what stands settled before the call.
