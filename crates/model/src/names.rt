@@ -8,7 +8,7 @@ pub enum Kind {
 }
 
 // A name's kind and the name that is its head, if it has one.
-#[derive(Clone, Copy)]
+#[derive(Clone, Copy, PartialEq, Eq)]
 pub struct Name {
     pub kind: Kind,
     pub head: Option<usize>,

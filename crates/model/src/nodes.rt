@@ -1,5 +1,5 @@
 // The nodes of a grammar text, by number: a node refers only to earlier nodes.
-#[derive(Clone, Copy)]
+#[derive(Clone, Copy, PartialEq, Eq)]
 pub enum Node {
     Nothing,
     Empty,
