@@ -13,8 +13,8 @@ use Rattle.text.specs.Pieces.{whole_text, last_byte}
 use Rattle.ledger.specs.declared.table.Settled.{Settled}
 use Rattle.records.specs.declared.fault.CallFault.{CallFault}
 use Rattle.records.specs.declared.sheet.Sheet.{Sheet}
-use Rattle.records.specs.declared.sheet.Verdict.{Verdict}
-use Rattle.records.specs.declared.sheet.Verdict.TheVariants.{Included, Excluded}
+use Rattle.model.specs.declared.verdict.Verdict.{Verdict}
+use Rattle.model.specs.declared.verdict.Verdict.TheVariants.{Included, Excluded}
 use Rattle.records.specs.Chains.{then, of_line}
 use Rattle.records.specs.Places.{item_fits}
 use Rattle.records.specs.Reading.{Found, sheet_read, counted, limit as most_bytes}

@@ -3,8 +3,8 @@ use Rattle.std.proofs.Common.{◌≡◌, ℕ, ◌<◌, None, sym, ◌∙◌}
 use Rattle.theory.specs.Machine.{Machine}
 use Rattle.theory.specs.Items.{spelled}
 use Rattle.ledger.specs.declared.table.Settled.{Settled}
-use Rattle.records.specs.declared.sheet.Verdict.{Verdict}
-use Rattle.records.specs.declared.sheet.Verdict.TheVariants.{Included, Excluded}
+use Rattle.model.specs.declared.verdict.Verdict.{Verdict}
+use Rattle.model.specs.declared.verdict.Verdict.TheVariants.{Included, Excluded}
 use Rattle.records.specs.Reading.{Found}
 use Rattle.judge_law.proofs.Included.{included_true}
 use Rattle.judge_law.proofs.Excluded.{excluded_true}

@@ -5,8 +5,8 @@ use Rattle.std.proofs.lemmas.Bool.{and_parts, leb-true, eqb-true}
 use Rattle.model.specs.declared.names.Name.{Name}
 use Rattle.text.specs.Pieces.{lines}
 use Rattle.records.specs.declared.sheet.Limits.{Limits}
-use Rattle.records.specs.declared.sheet.Verdict.{Verdict}
-use Rattle.records.specs.declared.sheet.Verdict.TheVariants.{Included, Excluded}
+use Rattle.model.specs.declared.verdict.Verdict.{Verdict}
+use Rattle.model.specs.declared.verdict.Verdict.TheVariants.{Included, Excluded}
 use Rattle.records.specs.declared.sheet.Stage.{Stage}
 use Rattle.records.specs.declared.sheet.Stage.TheVariants.{Sheet, Hedge, Ended}
 use Rattle.records.specs.Reading.{Found, text_read, sheet_read, hedge_read, begun, counted, answer, itself, Opening, padded}

@@ -7,8 +7,8 @@ use Rattle.theory.specs.Items.{spelled}
 use Rattle.ledger.specs.declared.table.Settled.{Settled}
 use Rattle.records.specs.declared.fault.CallFault.{CallFault}
 use Rattle.records.specs.declared.sheet.Sheet.{Sheet}
-use Rattle.records.specs.declared.sheet.Verdict.{Verdict}
-use Rattle.records.specs.declared.sheet.Verdict.TheVariants.{Included, Excluded}
+use Rattle.model.specs.declared.verdict.Verdict.{Verdict}
+use Rattle.model.specs.declared.verdict.Verdict.TheVariants.{Included, Excluded}
 use Rattle.records.specs.Reading.{Found, sheet_read, sheet_of}
 use Rattle.judge.specs.declared.fault.SheetFault.{SheetFault}
 use Rattle.judge.specs.declared.fault.SheetFault.TheVariants.{Call}

@@ -8,3 +8,4 @@ pub mod nodes;
 pub mod relation;
 pub mod rows;
 pub mod sets;
+pub mod verdict;

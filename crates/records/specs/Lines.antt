@@ -11,8 +11,8 @@ use Rattle.text.specs.Fields.{View, number, key, line_of, is_word, value_in}
 use Rattle.text.specs.Cursors.{taken, others, ended, line_parts}
 use Rattle.records.specs.declared.fault.CallFault.{CallFault}
 use Rattle.records.specs.declared.fault.CallFault.TheVariants.{Rule}
-use Rattle.records.specs.declared.sheet.Verdict.{Verdict}
-use Rattle.records.specs.declared.sheet.Verdict.TheVariants.{Included, Excluded}
+use Rattle.model.specs.declared.verdict.Verdict.{Verdict}
+use Rattle.model.specs.declared.verdict.Verdict.TheVariants.{Included, Excluded}
 use Rattle.records.specs.declared.sheet.Stage.{Stage}
 use Rattle.records.specs.declared.sheet.Stage.TheVariants.{Sheet, Hedge, Pair, Rows, Items, Ended}
 use Rattle.records.specs.declared.sheet.Progress.{Progress}

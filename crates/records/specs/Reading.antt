@@ -7,8 +7,8 @@ use Rattle.model.specs.Blank.{blank_row, blank_item}
 use Rattle.theory.specs.Items.{Earlier}
 use Rattle.text.specs.Pieces.{lines, whole_text}
 use Rattle.records.specs.declared.fault.CallFault.{CallFault}
-use Rattle.records.specs.declared.sheet.Verdict.{Verdict}
-use Rattle.records.specs.declared.sheet.Verdict.TheVariants.{Included, Excluded}
+use Rattle.model.specs.declared.verdict.Verdict.{Verdict}
+use Rattle.model.specs.declared.verdict.Verdict.TheVariants.{Included, Excluded}
 use Rattle.records.specs.declared.sheet.Stage.{Stage}
 use Rattle.records.specs.declared.sheet.Stage.TheVariants.{Sheet, Hedge, Pair, Rows, Items, Ended}
 use Rattle.records.specs.declared.sheet.Progress.{Progress}

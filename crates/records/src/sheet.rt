@@ -1,12 +1,6 @@
 //! What a text of records is made of, line by line.
 use model::rows::{Item, Row};
-
-/// Whether a sheet shows that its left rule is included in its right one, or that it is not.
-#[derive(Clone, Copy)]
-pub enum Verdict {
-    Included,
-    Excluded,
-}
+pub use model::verdict::Verdict;
 
 /// A sheet that was read: its verdict, its pair of rules and the number of its records.
 #[derive(Clone, Copy)]

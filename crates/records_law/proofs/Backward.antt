@@ -11,8 +11,8 @@ use Rattle.text.specs.declared.fault.LineFault.TheVariants.{Form}
 use Rattle.text.specs.Pieces.{before, after, fields}
 use Rattle.text.specs.Fields.{View, key, number, value_in}
 use Rattle.text.specs.Cursors.{taken, others, ended, parts_at}
-use Rattle.records.specs.declared.sheet.Verdict.{Verdict}
-use Rattle.records.specs.declared.sheet.Verdict.TheVariants.{Included, Excluded}
+use Rattle.model.specs.declared.verdict.Verdict.{Verdict}
+use Rattle.model.specs.declared.verdict.Verdict.TheVariants.{Included, Excluded}
 use Rattle.records.specs.declared.sheet.Stage.TheVariants.{Rows, Items, Ended}
 use Rattle.records.specs.declared.sheet.Progress.{Progress}
 use Rattle.records.specs.declared.sheet.Limits.{Limits}

@@ -7,8 +7,8 @@ use Rattle.model.specs.declared.names.Name.{Name}
 use Rattle.model.specs.declared.rows.Row.{Row}
 use Rattle.model.specs.declared.rows.Item.{Item}
 use Rattle.text.specs.Pieces.{lines, whole_text}
-use Rattle.records.specs.declared.sheet.Verdict.{Verdict}
-use Rattle.records.specs.declared.sheet.Verdict.TheVariants.{Included, Excluded}
+use Rattle.model.specs.declared.verdict.Verdict.{Verdict}
+use Rattle.model.specs.declared.verdict.Verdict.TheVariants.{Included, Excluded}
 use Rattle.records.specs.declared.sheet.Stage.TheVariants.{Sheet, Rows, Items, Ended}
 use Rattle.records.specs.declared.sheet.Progress.{Progress}
 use Rattle.records.specs.declared.sheet.Limits.{Limits}

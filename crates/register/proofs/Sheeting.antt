@@ -14,8 +14,8 @@ use Rattle.ledger.specs.declared.table.Settled.TheVariants.{Included as settled_
 use Rattle.ledger.specs.Settled.{enters}
 use Rattle.records.specs.declared.fault.CallFault.{CallFault}
 use Rattle.records.specs.declared.sheet.Sheet.{Sheet}
-use Rattle.records.specs.declared.sheet.Verdict.{Verdict}
-use Rattle.records.specs.declared.sheet.Verdict.TheVariants.{Included, Excluded}
+use Rattle.model.specs.declared.verdict.Verdict.{Verdict}
+use Rattle.model.specs.declared.verdict.Verdict.TheVariants.{Included, Excluded}
 use Rattle.records.specs.Reading.{Found, sheet_read, sheet_of, answer, padded, rows_in, items_in}
 use Rattle.records_law.proofs.Rewritten.{is_written}
 use Rattle.judge.specs.declared.fault.SheetFault.{SheetFault}

@@ -6,8 +6,8 @@ use Rattle.theory.specs.Machine.{Machine}
 use Rattle.records.specs.declared.fault.CallFault.{CallFault}
 use Rattle.records.specs.declared.fault.CallFault.TheVariants.{Rule}
 use Rattle.records.specs.declared.sheet.Sheet.{Sheet}
-use Rattle.records.specs.declared.sheet.Verdict.{Verdict}
-use Rattle.records.specs.declared.sheet.Verdict.TheVariants.{Included as claim_included, Excluded as claim_excluded}
+use Rattle.model.specs.declared.verdict.Verdict.{Verdict}
+use Rattle.model.specs.declared.verdict.Verdict.TheVariants.{Included as claim_included, Excluded as claim_excluded}
 use Rattle.judge.specs.declared.fault.SheetFault.{SheetFault}
 use Rattle.judge.specs.Judgement.{included_fault, excluded_fault, refusal}
 use Rattle.judge.specs.Faults.{no_memory}

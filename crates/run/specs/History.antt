@@ -6,7 +6,7 @@ use Rattle.ledger.specs.declared.table.Settled.{Settled}
 use Rattle.ledger.specs.declared.table.Settled.TheVariants.{Unsettled}
 use Rattle.ledger.specs.Settled.{enters}
 use Rattle.records.specs.declared.sheet.Sheet.{Sheet}
-use Rattle.records.specs.declared.sheet.Verdict.TheVariants as verdict
+use Rattle.model.specs.declared.verdict.Verdict.TheVariants as verdict
 use Rattle.search.specs.declared.answer.Answer.{Answer}
 use Rattle.search.specs.declared.answer.Answer.TheVariants as answer
 use Rattle.register.specs.Calls.{settles}

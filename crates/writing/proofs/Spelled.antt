@@ -5,8 +5,8 @@ use Rattle.model.specs.Sets.{has}
 use Rattle.writing.specs.Texts.{further, line_text, members, state_text, item_text, verdict_line, pair_text, end_text, records_text, sheet_text}
 use Rattle.model.specs.declared.rows.Row.{Row}
 use Rattle.records.specs.declared.sheet.Sheet.{Sheet}
-use Rattle.records.specs.declared.sheet.Verdict.{Verdict}
-use Rattle.records.specs.declared.sheet.Verdict.TheVariants.{Included, Excluded}
+use Rattle.model.specs.declared.verdict.Verdict.{Verdict}
+use Rattle.model.specs.declared.verdict.Verdict.TheVariants.{Included, Excluded}
 use Rattle.model.specs.declared.rows.Item.{Item}
 
 -- the states of a set among one more
