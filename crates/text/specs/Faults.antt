@@ -1,17 +1,11 @@
 -- What a fault tells: its number, its line and its layer.
-use Rattle.std.specs.Prelude.{ℕ}
+use Rattle.text.specs.declared.fault.Told.{Told}
 use Rattle.text.specs.declared.fault.Layer.{Layer}
 use Rattle.text.specs.declared.fault.Layer.TheVariants.{Line as line_layer, Table as table_layer}
 use Rattle.text.specs.declared.fault.LineFault.{LineFault}
 use Rattle.text.specs.declared.fault.LineFault.TheVariants.{Form, Number, Spelling}
 use Rattle.text.specs.declared.fault.TableFault.{TableFault}
 use Rattle.text.specs.declared.fault.TableFault.TheVariants.{Line, Full, Place}
-
--- the number of a fault's cause, the line that it stands at, and the layer that found it
-pub record Told : Type 0 where
-  pub cause : ℕ
-  pub at_line : ℕ
-  pub found_by : Layer
 
 -- a line fault: 1 a wrong form, 2 a malformed number, 3 a malformed or repeated spelling
 abbrev pub line_told : LineFault → Told
