@@ -2,6 +2,7 @@
 use crate::commands::{Named, relation_of, rows_of};
 use crate::show::{name_of, show_hedge};
 use crate::words::{Fault, cause, layer_name};
+use text::fault::Fault as _;
 use anyhow::anyhow;
 use load::fault::LoadError;
 use load::grammar::Grammar;

@@ -3,6 +3,7 @@ use crate::ask::{derivative_count, load_fault, read_file};
 use crate::commands::Named;
 use crate::show::{show_items, show_rows};
 use crate::words::{Fault, layer_name};
+use text::fault::Fault as _;
 use ledger::table::Settled;
 use load::grammar::Grammar;
 use load::load::load;

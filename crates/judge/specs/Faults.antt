@@ -1,6 +1,6 @@
 -- What a sheet's fault tells: its number, its line and its layer.
 use Rattle.text.specs.declared.fault.Layer.TheVariants.{Sheet}
-use Rattle.text.specs.Faults.{Told}
+use Rattle.text.specs.declared.fault.Told.{Told}
 use Rattle.records.specs.declared.fault.CallFault.TheVariants.{Room}
 use Rattle.records.specs.Faults.{call_told}
 use Rattle.judge.specs.declared.fault.SheetFault.{SheetFault}

@@ -4,65 +4,48 @@ ghost use Rattle.judge.specs.Faults.{sheet_told};
 ghost use Rattle.judge.specs.declared.fault.SheetFault.TheVariants.{Call as in_call};
 
 use records::fault::CallFault;
-use text::fault::Layer;
+use text::fault::{Fault, Layer, Told};
+use thiserror::Error;
 
 /// Why a sheet is refused.
-#[derive(Clone, Copy)]
+#[derive(Clone, Copy, Debug, PartialEq, Eq, Error)]
 pub enum SheetFault {
     /// The call or the text is at fault.
+    #[error(transparent)]
     Call(CallFault),
     /// Row 0 is absent or is not the root.
+    #[error("row 0 of the sheet is absent or is not the pair that it claims")]
     Root,
     /// The row at this line is inconsistent.
+    #[error("a row is inconsistent: its left has the empty hedge and its right has not")]
     Inconsistent { line: usize },
     /// The row at this line has an either-or with neither side shown.
+    #[error("a row has a gap: an either-or with neither side shown")]
     Gap { line: usize },
     /// The row at this line is wide.
+    #[error("a row is wide: more than 8 pairs on its right under one name")]
     Wide { line: usize },
     /// The hedge is not in the left, or is in the right.
+    #[error("the hedge is not in the left, or is in the right")]
     Witness,
 }
 
-impl SheetFault {
-    /// The number of its cause.
-    pub fn number(self) -> u8
-        ensures { result ≡ (sheet_told self).cause }
-    {
-        match self {
-            SheetFault::Call(fault) => fault.number(),
-            SheetFault::Root => 10,
-            SheetFault::Inconsistent { .. } => 11,
-            SheetFault::Gap { .. } => 12,
-            SheetFault::Wide { .. } => 13,
-            SheetFault::Witness => 14,
-        }
-    }
+impl Fault for SheetFault {
+    ghost told = { sheet_told };
 
-    /// The line that it stands at, from 1; 0 where it is no line's.
-    pub fn line(self) -> usize
-        ensures { result ≡ (sheet_told self).at_line }
-    {
-        match self {
-            SheetFault::Call(fault) => fault.line(),
-            SheetFault::Root => 2,
-            SheetFault::Inconsistent { line } => line,
-            SheetFault::Gap { line } => line,
-            SheetFault::Wide { line } => line,
-            SheetFault::Witness => 2,
-        }
-    }
-
-    /// The layer that found it.
-    pub fn layer(self) -> Layer
-        ensures { result ≡ (sheet_told self).found_by }
-    {
-        match self {
-            SheetFault::Call(fault) => fault.layer(),
-            SheetFault::Root => Layer::Sheet,
-            SheetFault::Inconsistent { .. } => Layer::Sheet,
-            SheetFault::Gap { .. } => Layer::Sheet,
-            SheetFault::Wide { .. } => Layer::Sheet,
-            SheetFault::Witness => Layer::Sheet,
+    fn told(self) -> Told {
+        let (cause, at_line) = match self {
+            SheetFault::Call(fault) => return fault.told(),
+            SheetFault::Root => (10, 2),
+            SheetFault::Inconsistent { line } => (11, line),
+            SheetFault::Gap { line } => (12, line),
+            SheetFault::Wide { line } => (13, line),
+            SheetFault::Witness => (14, 2),
+        };
+        Told {
+            cause,
+            at_line,
+            found_by: Layer::Sheet,
         }
     }
 }

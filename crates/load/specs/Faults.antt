@@ -1,6 +1,7 @@
 -- What a grammar's fault tells: its number, its line and its layer.
 use Rattle.text.specs.declared.fault.Layer.TheVariants.{Grammar}
-use Rattle.text.specs.Faults.{Told, table_told}
+use Rattle.text.specs.declared.fault.Told.{Told}
+use Rattle.text.specs.Faults.{table_told}
 use Rattle.load.specs.declared.fault.GrammarFault.{GrammarFault}
 use Rattle.load.specs.declared.fault.GrammarFault.TheVariants.{Table, Recursion, Size}
 

@@ -3,16 +3,20 @@ ghost use Rattle.std.specs.Prelude.{◌≡◌};
 ghost use Rattle.load.specs.Faults.{grammar_told};
 ghost use Rattle.load.specs.declared.fault.GrammarFault.TheVariants.{Table as in_table};
 
-use text::fault::{Layer, TableFault};
+use text::fault::{Fault, Layer, TableFault, Told};
+use thiserror::Error;
 
 /// Why a grammar is refused.
-#[derive(Clone, Copy)]
+#[derive(Clone, Copy, Debug, PartialEq, Eq, Error)]
 pub enum GrammarFault {
     /// A line of the text is at fault.
+    #[error(transparent)]
     Table(TableFault),
     /// The rule at this line mentions a rule where it may not.
+    #[error("the rule mentions itself or a later rule where recursion is not lawful")]
     Recursion { line: usize },
     /// Over 512 expressions, 128 states or 512 derivatives.
+    #[error("the grammar has over 512 expressions, 128 states or 512 derivatives")]
     Size,
 }
 
@@ -23,37 +27,19 @@ pub enum LoadError {
     Memory,
 }
 
-impl GrammarFault {
-    /// The number of its cause.
-    pub fn number(self) -> u8
-        ensures { result ≡ (grammar_told self).cause }
-    {
-        match self {
-            GrammarFault::Table(fault) => fault.number(),
-            GrammarFault::Recursion { .. } => 6,
-            GrammarFault::Size => 7,
-        }
-    }
+impl Fault for GrammarFault {
+    ghost told = { grammar_told };
 
-    /// The line that it stands at, from 1; 0 where it is no line's.
-    pub fn line(self) -> usize
-        ensures { result ≡ (grammar_told self).at_line }
-    {
-        match self {
-            GrammarFault::Table(fault) => fault.line(),
-            GrammarFault::Recursion { line } => line,
-            GrammarFault::Size => 0,
-        }
-    }
-
-    /// The layer that found it.
-    pub fn layer(self) -> Layer
-        ensures { result ≡ (grammar_told self).found_by }
-    {
-        match self {
-            GrammarFault::Table(fault) => fault.layer(),
-            GrammarFault::Recursion { .. } => Layer::Grammar,
-            GrammarFault::Size => Layer::Grammar,
+    fn told(self) -> Told {
+        let (cause, at_line) = match self {
+            GrammarFault::Table(fault) => return fault.told(),
+            GrammarFault::Recursion { line } => (6, line),
+            GrammarFault::Size => (7, 0),
+        };
+        Told {
+            cause,
+            at_line,
+            found_by: Layer::Grammar,
         }
     }
 }

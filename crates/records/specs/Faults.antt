@@ -1,6 +1,7 @@
 -- What a call's fault tells: its number, its line and its layer.
 use Rattle.text.specs.declared.fault.Layer.TheVariants.{Call}
-use Rattle.text.specs.Faults.{Told, table_told}
+use Rattle.text.specs.declared.fault.Told.{Told}
+use Rattle.text.specs.Faults.{table_told}
 use Rattle.records.specs.declared.fault.CallFault.{CallFault}
 use Rattle.records.specs.declared.fault.CallFault.TheVariants.{Table, Rule, Room, Output}
 

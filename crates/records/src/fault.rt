@@ -4,56 +4,43 @@ ghost use Rattle.records.specs.Faults.{call_told};
 ghost use Rattle.records.specs.declared.fault.CallFault.TheVariants.{Table as in_table};
 ghost use Rattle.text.specs.declared.fault.TableFault.TheVariants.{Line as in_line};
 
-use text::fault::{Layer, LineFault, TableFault};
+use text::fault::{Fault, Layer, LineFault, TableFault, Told};
+use thiserror::Error;
 
 /// Why a call refuses what it is given.
-#[derive(Clone, Copy)]
+#[derive(Clone, Copy, Debug, PartialEq, Eq, Error)]
 pub enum CallFault {
     /// A line of the text is at fault.
+    #[error(transparent)]
     Table(TableFault),
     /// A rule that is absent: at line 2 in a sheet's pair, at line 0 in the call itself.
+    #[error("there is no such rule")]
     Rule { line: usize },
     /// Rows or items: at line 0 none, too many or unequal counts were given; else the first record
     /// without a place stands at that line.
+    #[error(
+        "the rows and items are none, over 512 or not as many of both, or too few for the text"
+    )]
     Room { line: usize },
     /// The output is shorter than the sheet.
+    #[error("the output is shorter than the sheet")]
     Output,
 }
 
-impl CallFault {
-    /// The number of its cause.
-    pub fn number(self) -> u8
-        ensures { result ≡ (call_told self).cause }
-    {
-        match self {
-            CallFault::Table(fault) => fault.number(),
-            CallFault::Rule { .. } => 8,
-            CallFault::Room { .. } => 9,
-            CallFault::Output => 15,
-        }
-    }
+impl Fault for CallFault {
+    ghost told = { call_told };
 
-    /// The line that it stands at, from 1; 0 where it is no line's.
-    pub fn line(self) -> usize
-        ensures { result ≡ (call_told self).at_line }
-    {
-        match self {
-            CallFault::Table(fault) => fault.line(),
-            CallFault::Rule { line } => line,
-            CallFault::Room { line } => line,
-            CallFault::Output => 0,
-        }
-    }
-
-    /// The layer that found it.
-    pub fn layer(self) -> Layer
-        ensures { result ≡ (call_told self).found_by }
-    {
-        match self {
-            CallFault::Table(fault) => fault.layer(),
-            CallFault::Rule { .. } => Layer::Call,
-            CallFault::Room { .. } => Layer::Call,
-            CallFault::Output => Layer::Call,
+    fn told(self) -> Told {
+        let (cause, at_line) = match self {
+            CallFault::Table(fault) => return fault.told(),
+            CallFault::Rule { line } => (8, line),
+            CallFault::Room { line } => (9, line),
+            CallFault::Output => (15, 0),
+        };
+        Told {
+            cause,
+            at_line,
+            found_by: Layer::Call,
         }
     }
 }

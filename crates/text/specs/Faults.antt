@@ -1,6 +1,5 @@
 -- What a fault tells: its number, its line and its layer.
 use Rattle.text.specs.declared.fault.Told.{Told}
-use Rattle.text.specs.declared.fault.Layer.{Layer}
 use Rattle.text.specs.declared.fault.Layer.TheVariants.{Line as line_layer, Table as table_layer}
 use Rattle.text.specs.declared.fault.LineFault.{LineFault}
 use Rattle.text.specs.declared.fault.LineFault.TheVariants.{Form, Number, Spelling}

@@ -72,9 +72,7 @@ pub trait Fault: Copy {
 #[derive(Clone, Copy, Debug, PartialEq, Eq, Error)]
 pub enum LineFault {
     /// A wrong key, first value or number of fields, a missing line, or a text that is no lines.
-    #[error(
-        "a line has a wrong key, a wrong first value or a wrong number of fields, or is missing, or the text is empty, too long or without its last line end"
-    )]
+    #[error("a line has a wrong key, a wrong first value or a wrong number of fields, or is missing, or the text is empty, too long or without its last line end")]
     Form { line: usize },
     /// A malformed number.
     #[error("a number is malformed")]
