@@ -103,10 +103,10 @@ pub fed_room : {A : Type 0} {same : A → A → Bool} {m n : ℕ} {b a xs : List
 fed_room {same = same} {b = b} {a} {xs} {answer} e = subst (λ k. Fed same k b a xs answer) e
 
 pub kept_same : {A : Type 0} (b : Book A) → Kept b b
-kept_same b = record { len = refl; within = λ h. h }
+kept_same b = record { len = refl; lent = refl }
 
 pub kept_more : {A : Type 0} (a b c : Book A) → Kept a b → Kept b c → Kept a c
-kept_more a b c x y = record { len = y.len ∙ x.len; within = λ h. y.within (x.within h) }
+kept_more a b c x y = record { len = y.len ∙ x.len; lent = y.lent ∙ x.lent }
 
 -- a book never holds more than it has room for
 pub holds_room : {A : Type 0} (b : Book A) → length (holds b) ≤ room b

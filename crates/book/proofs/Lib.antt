@@ -1,3 +1,2 @@
-pub mod Seek
 pub mod Enter
 pub mod Feeding

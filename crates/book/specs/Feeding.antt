@@ -1,5 +1,5 @@
 -- What a book holds, and what entering a list of records in order does to it.
-use Rattle.std.specs.Prelude.{◌≡◌, ℕ, ◌≤◌, Bool, List, length, take, nat_le}
+use Rattle.std.specs.Prelude.{◌≡◌, ℕ, Bool, List, length, take, nat_le}
 use Rattle.theory.specs.Count.{entered}
 use Rattle.book.specs.declared.Book.{Book}
 
@@ -17,10 +17,10 @@ pub record Fed {A : Type 0} (same : A → A → Bool) (limit : ℕ) (before afte
   pub held : after ≡ take limit (entered same before list)
   pub fits : answer ≡ nat_le (length (entered same before list)) limit
 
--- The room stays as it is, and the count stays within it.
+-- The room and the loan stay as they are.
 pub record Kept {A : Type 0} (before after : Book A) : Type 0 where
   pub len : room after ≡ room before
-  pub within : before.count ≤ room before → after.count ≤ room after
+  pub lent : after.records.ghost_name ≡ before.records.ghost_name
 
 -- A list was entered in a book, within its room.
 pub record Fills {A : Type 0} (same : A → A → Bool) (before after : Book A) (list : List A) (answer : Bool) : Type 0 where

@@ -2,78 +2,78 @@
 // the next. The records stand in a slice that the caller lends, whose length is the book's limit.
 #![tactic(auto)]
 
-ghost use Rattle.std.specs.Prelude.{◌≡◌, ◌≤◌, Bool, [], ◌∷◌, length, take, drop};
-ghost use Rattle.theory.specs.Count.{enter};
-ghost use Rattle.book.specs.Place.{place, numbered};
-ghost use Rattle.book.specs.Feeding.{Fills};
+ghost use Rattle.std.specs.Prelude.{◌≡◌, ◌<◌, ◌≤◌, Bool, [], ◌∷◌, length, take, drop, IfOk};
+ghost use Rattle.std.specs.List.{position};
+ghost use Rattle.std.specs.Result.{is_ok};
 
-pub mod kinds;
+// There is no room for one more record.
+#[derive(Clone, Copy, PartialEq, Eq, Debug, Drop)]
+pub struct Full;
 
-// A kind of record that can tell whether two are the same.
-pub trait Same {
-    ghost same: { Self → Self → Bool };
-
-    fn is_same(&self, other: &Self) -> bool
-        ensures { result ≡ same self.now other.now };
-}
-
-// The first `count` of the lent records are the book's.
+// The first `count` of the lent records are the book's. The slice stands for the memory that a
+// question may use: none is reserved while it runs.
 #[derive(Drop)]
 pub struct Book<'a, T> {
-    pub records: &'a mut [T],
-    pub count: usize,
+    records: &'a mut [T],
+    count: usize,
+    pub ghost within: { count ≤ length records.now },
 }
 
-// The number of the first of the first `count` records that is the same as x; if none is, how
-// many records there are.
-pub fn find<T: Same>(records: &[T], count: usize, x: &T) -> usize
-    ensures { result ≡ place T.Same.same (take count records.now) x.now }
+// The number of the first record that is the same as x.
+pub fn find<T: PartialEq>(records: &[T], x: &T) -> Option<usize>
+    ensures { result ≡ position (T.eq x.now) records.now }
 {
-    let mut i = 0;
-    while i < count && i < records.len() {
-        if x.is_same(&records[i]) {
-            return i;
-        }
-        i += 1;
-    }
-    i
+    records.iter().position(|record| x == record)
 }
 
-impl<T: Same + Copy> Book<'_, T> {
-    // The number of x in the book, or the book's length if x is not in it.
-    fn place_of(&self, x: &T) -> usize
-        ensures { result ≡ place T.Same.same (take self.now.count self.now.records.now) x.now }
+impl<'a, T: PartialEq + Copy> Book<'a, T> {
+    ghost use Rattle.theory.specs.Count.{enter};
+    ghost use Rattle.book.specs.Place.{numbered};
+    ghost use Rattle.book.specs.Feeding.{holds, room, Fills};
+
+    // The book of no record, with room for as many as are lent.
+    pub fn new(records: &'a mut [T]) -> Book<'a, T>
+        ensures held { holds result ≡ [] }
+        ensures room { room result ≡ length records.old }
+        ensures lent { result.records.ghost_name ≡ records.entry.ghost_name }
     {
-        let records = &*self.records;
-        find(records, self.count, x)
+        Book { records, count: 0 }
     }
 
-    // Enters x: its number, or None where it is new and the book is full. What the book then holds
+    // The records of the book.
+    pub fn records(&self) -> &[T]
+        ensures { result.now ≡ holds self.now }
+    {
+        &self.records[..self.count]
+    }
+
+    // Enters x: its number, or `Full` where it is new and the book is full. What the book then holds
     // is the first of the records that entering gives, as many as have room. The records beyond
     // stay, and so does the loan.
-    pub fn enter(&mut self, x: T) -> Option<usize>
-        ensures number { result ≡ numbered T.Same.same (length self.old.records.now) (take self.old.count self.old.records.now) x }
-        ensures held { take self.new.count self.new.records.now ≡ take (length self.old.records.now) (enter T.Same.same (take self.old.count self.old.records.now) x) }
+    pub fn enter(&mut self, x: T) -> Result<usize, Full>
+        ensures number { result ≡ numbered T.eq (room self.old) (holds self.old) x }
+        ensures held { holds self.new ≡ take (room self.old) (enter T.eq (holds self.old) x) }
         ensures beyond { drop self.new.count self.new.records.now ≡ drop self.new.count self.old.records.now }
-        ensures fits { self.old.count ≤ length self.old.records.now → self.new.count ≤ length self.new.records.now }
-        ensures len { length self.new.records.now ≡ length self.old.records.now }
+        ensures len { room self.new ≡ room self.old }
         ensures lent { self.new.records.ghost_name ≡ self.old.records.ghost_name }
     {
-        let i = self.place_of(&x);
-        if i >= self.records.len() {
-            return None;
+        if let Some(place) = find(self.records(), &x) {
+            return Ok(place);
         }
-        if i >= self.count {
-            self.records[i] = x;
-            self.count = i + 1;
+        if self.count == self.records.len() {
+            return Err(Full);
         }
-        Some(i)
+        let place = self.count;
+        self.records[place] = x;
+        self.count = place + 1;
+        Ok(place)
     }
-    // Enters x, and tells whether it is in the book now.
-    pub fn put(&mut self, x: T) -> bool
-        ensures fills { Fills T.Same.same self.old self.new (x ∷ []) result }
-        ensures lent { self.new.records.ghost_name ≡ self.old.records.ghost_name }
+
+    // Enters x, so that it is in the book afterwards unless the book is full.
+    pub fn put(&mut self, x: T) -> Result<(), Full>
+        ensures { Fills T.eq self.old self.new (x ∷ []) (is_ok result) }
     {
-        self.enter(x).is_some()
+        self.enter(x)?;
+        Ok(())
     }
 }

@@ -1,40 +1,32 @@
-use Rattle.std.proofs.Common.{◌+◌, refl, arith}
-use Rattle.std.proofs.lemmas.List.{length-set, drop-set-lt}
-use Rattle.book.proofs.Enter.{old_number, old_held, new_number, new_held, full_number, full_held}
+use Rattle.std.proofs.Common.{sym, ap, ◌∙◌, arith}
+use Rattle.std.specs.List.{position}
+use Rattle.std.proofs.lemmas.List.{length-take-le}
+use Rattle.book.specs.Feeding.{holds, room}
+use Rattle.book.proofs.Enter.{old_number, old_held, full_number, new_number, new_held}
 use Rattle.book.proofs.Book.enter.Goals as goal
 
-pub returns-then-i-self : goal.returns-then-i-self
-returns-then-i-self g c = record {
-  number = full_number g.T.Same.same c.args.self.now.records.now c.args.self.now.count c.args.x c.place_of-i.result
-      c.place_of-i.ensures c.if-i-self.true;
-  held = full_held g.T.Same.same c.args.self.now.records.now c.args.self.now.count c.args.x c.place_of-i.result
-      c.place_of-i.ensures c.if-i-self.true;
-  beyond = refl;
-  fits = λ h. h;
-  len = refl;
-  lent = refl;
-}
+pub returns-in-Some-clause-number : goal.returns-in-Some-clause-number
+returns-in-Some-clause-number g c = old_number g.T.PartialEq.eq (room c.args.self.now) (holds c.args.self.now) c.args.x c.in-Some.place
+    (omega (arith, length-take-le c.args.self.now.count c.args.self.now.records.now c.args.self.now.within, c.args.self.now.within))
+    (sym c.in-Some.is ∙ c.find.ensures ∙ ap (position (g.T.PartialEq.eq c.args.x)) c.records.ensures)
 
-pub returns-then-i-self-2 : goal.returns-then-i-self-2
-returns-then-i-self-2 g c = record {
-  number = new_number g.T.Same.same c.args.self.now.records.now c.args.self.now.count c.args.x c.place_of-i.result
-      c.place_of-i.ensures c.if-i-self-2.true c.if-i-self.false;
-  held = new_held g.T.Same.same c.args.self.now.records.now c.args.self.now.count c.args.x c.place_of-i.result
-      c.place_of-i.ensures c.if-i-self-2.true c.if-i-self.false;
-  beyond = drop-set-lt (c.place_of-i.result + 1) c.args.self.now.records.now c.place_of-i.result c.args.x (omega arith);
-  fits = λ _. let e = length-set c.args.self.now.records.now c.place_of-i.result c.args.x in omega arith;
-  len = length-set c.args.self.now.records.now c.place_of-i.result c.args.x;
-  lent = refl;
-}
+pub returns-in-Some-clause-held : goal.returns-in-Some-clause-held
+returns-in-Some-clause-held g c = old_held g.T.PartialEq.eq (room c.args.self.now) (holds c.args.self.now) c.args.x c.in-Some.place
+    (omega (arith, length-take-le c.args.self.now.count c.args.self.now.records.now c.args.self.now.within, c.args.self.now.within))
+    (sym c.in-Some.is ∙ c.find.ensures ∙ ap (position (g.T.PartialEq.eq c.args.x)) c.records.ensures)
 
-pub returns-else-i-self-2 : goal.returns-else-i-self-2
-returns-else-i-self-2 g c = record {
-  number = old_number g.T.Same.same c.args.self.now.records.now c.args.self.now.count c.args.x c.place_of-i.result
-      c.place_of-i.ensures c.if-i-self-2.false c.if-i-self.false;
-  held = old_held g.T.Same.same c.args.self.now.records.now c.args.self.now.count c.args.x c.place_of-i.result
-      c.place_of-i.ensures c.if-i-self-2.false c.if-i-self.false;
-  beyond = refl;
-  fits = λ h. h;
-  len = refl;
-  lent = refl;
-}
+pub returns-then-self-clause-number : goal.returns-then-self-clause-number
+returns-then-self-clause-number g c = full_number g.T.PartialEq.eq (room c.args.self.now) (holds c.args.self.now) c.args.x
+    (omega (arith, length-take-le c.args.self.now.count c.args.self.now.records.now c.args.self.now.within))
+    (sym c.in_default.is ∙ c.find.ensures ∙ ap (position (g.T.PartialEq.eq c.args.x)) c.records.ensures)
+
+pub returns-clause-number : goal.returns-clause-number
+returns-clause-number g c = new_number g.T.PartialEq.eq (room c.args.self.now) (holds c.args.self.now) c.args.x c.args.self.now.count
+    (sym (length-take-le c.args.self.now.count c.args.self.now.records.now c.args.self.now.within))
+    (omega (arith, c.args.self.now.within))
+    (sym c.in_default.is ∙ c.find.ensures ∙ ap (position (g.T.PartialEq.eq c.args.x)) c.records.ensures)
+
+pub returns-clause-held : goal.returns-clause-held
+returns-clause-held g c = new_held g.T.PartialEq.eq c.args.self.now.records.now c.args.self.now.count c.args.x
+    (omega (arith, c.args.self.now.within))
+    (sym c.in_default.is ∙ c.find.ensures ∙ ap (position (g.T.PartialEq.eq c.args.x)) c.records.ensures)
