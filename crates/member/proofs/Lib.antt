@@ -1,3 +1,1 @@
-mod Gather
 mod Filling
-mod Told

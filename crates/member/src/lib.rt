@@ -4,13 +4,27 @@
 
 ghost use Rattle.std.specs.Prelude.{◌≡◌, ◌+◌, ◌<◌, ◌≤◌, length, take, if◌then◌else◌, Some, None, nat_lt, slice_index, slice_index_or};
 ghost use Rattle.sides.specs.View.{view};
-ghost use Rattle.meaning.specs.Tables.{nullable_set, takes, gather, set_at, state_sets, has_spelled};
-ghost use Rattle.member.specs.Sets.{bits_of, spelled_set};
+ghost use Rattle.meaning.specs.Tables.{nullable_set, takes, gather, state_sets, has_spelled};
+ghost use Rattle.member.specs.Sets.{Gathered, bits_of, spelled_set};
 
 use model::machine::Machine;
 use model::rows::Item;
 use model::sets::StateSet;
 use sides::covers::Covers;
+
+/// The set of the states below `count` that pass a test.
+fn gathered<P: Fn(usize) -> bool>(count: usize, passes: P) -> StateSet
+    requires { P.IsAlwaysCallable passes }
+    ensures { Gathered (P.post passes) count result.bits }
+{
+    let mut set = StateSet::empty();
+    for q in 0..count {
+        if passes(q) {
+            set = set.with(q);
+        }
+    }
+    set
+}
 
 /// Whether some derivative of the state q has a label that covers t, a content in `inside` and a
 /// rest in `following`.
@@ -24,13 +38,9 @@ fn takes_item(
 ) -> bool
     ensures { result ≡ takes (view machine.now covers.now) t inside.bits following.bits q }
 {
-    let derivatives = machine.derivatives(q);
-    for d in derivatives {
-        if covers.get(d.0, t) & (inside.contains(d.1) & following.contains(d.2)) {
-            return true;
-        }
-    }
-    false
+    machine.derivatives(q).iter().any(|d| covers.get(d.0, t)
+        && inside.contains(d.1)
+        && following.contains(d.2))
 }
 
 /// The states that have an item t with a hedge inside that the states of `inside` have, before one
@@ -44,36 +54,29 @@ fn item_set(
 ) -> StateSet
     ensures { result.bits ≡ gather (length (view machine.now covers.now).states) (takes (view machine.now covers.now) t inside.bits following.bits) }
 {
-    let mut set = StateSet::empty();
-    for q in 0..machine.count() {
-        if takes_item(machine, covers, t, inside, following, q) {
-            set = set.with(q);
-        }
-    }
-    set
+    gathered(machine.count(), |q| {
+        takes_item(machine, covers, t, inside, following, q)
+    })
 }
 
 /// The states that have the empty hedge.
+#[tactic(auto, unfolding(meaning::specs::Tables::nullable_set))]
 fn empty_set(machine: &Machine, covers: &Covers) -> StateSet
     ensures { result.bits ≡ nullable_set (view machine.now covers.now) }
 {
-    let mut set = StateSet::empty();
-    for q in 0..machine.count() {
-        if machine.is_nullable(q) {
-            set = set.with(q);
-        }
-    }
-    set
+    gathered(machine.count(), |q| machine.is_nullable(q))
 }
 
-/// The set of the hedge number k among the first `known` sets; a number beyond them stands for the
-/// empty hedge, whose set is the first.
-fn set_of(sets: &[StateSet], known: usize, k: usize) -> StateSet
-    requires some { 0 < known }
-    requires within { known ≤ length sets.now }
-    ensures { result.bits ≡ slice_index_or (take known (bits_of sets.now)) k (slice_index (bits_of sets.now) 0) }
+/// The set of the hedge number k; a number without one stands for the empty hedge, whose set is the
+/// first.
+fn set_of(sets: &[StateSet], k: usize) -> StateSet
+    requires { 0 < length sets.now }
+    ensures { result.bits ≡ slice_index_or (bits_of sets.now) k (slice_index (bits_of sets.now) 0) }
 {
-    if k < known { sets[k] } else { sets[0] }
+    match sets.get(k) {
+        Some(set) => *set,
+        None => sets[0],
+    }
 }
 
 /// Puts the set of each hedge number into the table: 0 is the empty hedge, k begins at item k.
@@ -82,11 +85,11 @@ fn fill(machine: &Machine, covers: &Covers, items: &[Item], sets: &mut [StateSet
     ensures table { take (length items.now + 1) (bits_of sets.new) ≡ state_sets (view machine.now covers.now) items.now }
 {
     sets[0] = empty_set(machine, covers);
-    for k in 0..items.len() {
-        let i = items[k];
-        let inside = set_of(sets, k + 1, i.child);
-        let following = set_of(sets, k + 1, i.next);
-        sets[k + 1] = item_set(machine, covers, i.name, inside, following);
+    for (k, item) in items.iter().enumerate() {
+        let known = &sets[..=k];
+        let inside = set_of(known, item.child);
+        let following = set_of(known, item.next);
+        sets[k + 1] = item_set(machine, covers, item.name, inside, following);
     }
 }
 
@@ -109,6 +112,7 @@ pub fn hedge_states(
 
 /// Whether the state q has the hedge that the items spell; `sets` is working memory, one set more
 /// than there are items. Nothing where it is shorter.
+#[tactic(auto, unfolding(meaning::specs::Tables::has_spelled, crate::specs::Sets::spelled_set))]
 pub fn has_hedge(
     machine: &Machine,
     covers: &Covers,
@@ -118,8 +122,5 @@ pub fn has_hedge(
 ) -> Option<bool>
     ensures { result ≡ (if nat_lt (length items.now) (length sets.old) then Some (has_spelled (view machine.now covers.now) items.now q) else None) }
 {
-    match hedge_states(machine, covers, items, sets) {
-        Some(set) => Some(set.contains(q)),
-        None => None,
-    }
+    hedge_states(machine, covers, items, sets).map(|set| set.contains(q))
 }

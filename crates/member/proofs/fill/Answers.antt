@@ -1,4 +1,4 @@
-use Rattle.std.proofs.Common.{◌≡◌, ◌+◌, ◌<◌, List, length, get_or, take, sym, refl, ap, ◌∙◌, ap₂, arith}
+use Rattle.std.proofs.Common.{◌≡◌, ◌+◌, ◌<◌, List, length, get_or, take, sym, ap, ◌∙◌, ap₂, arith}
 use Rattle.std.proofs.lemmas.List.{take_all, length-set}
 use Rattle.model.specs.declared.rows.Item.{Item}
 use Rattle.model.specs.Blank.{blank_item}
@@ -18,22 +18,17 @@ loop-k-preserved c =
     let m : Machine = view c.args.machine.now c.args.covers.now in
     let i : Item = get_or c.args.items.now c.loop-k.k blank_item in
     let done : List Item = take c.loop-k.k c.args.items.now in
-    let inside = filled_at m c.loop-k.sets done (c.loop-k.k + 1) i.child c.set_of-inside.result.bits
-    c.loop-k.invariant.0 c.loop-k.invariant.1 c.set_of-inside.ensures in
-    let following = filled_at m c.loop-k.sets done (c.loop-k.k + 1) i.next c.set_of-following.result.bits
-    c.loop-k.invariant.0 c.loop-k.invariant.1 c.set_of-following.ensures in
-    let same : c.item_set.result.bits ≡ item_set m (state_sets m done) i =
-    c.item_set.ensures ∙ ap₂ (λ a b. gather (length m.states) (takes m i.name a b)) inside following in
-    let room : length c.args.items.now < length c.loop-k.sets =
-    omega (arith, length-set c.args.sets.now 0 c.empty_set.result) in
-    filling_more m c.loop-k.sets c.args.items.now c.loop-k.k i c.item_set.result
-    c.loop-k-test.true room c.loop-k.invariant.0 c.loop-k.invariant.1 refl same
+    let inside = filled_at m c.loop-k.sets done (c.loop-k.k + 1) i.child c.set_of-inside.result.bits c.loop-k.invariant c.set_of-inside.ensures in
+    let following = filled_at m c.loop-k.sets done (c.loop-k.k + 1) i.next c.set_of-following.result.bits c.loop-k.invariant c.set_of-following.ensures in
+    let room : length c.args.items.now < length c.loop-k.sets = omega (arith, length-set c.args.sets.now 0 c.empty_set.result) in
+    filling_more m c.loop-k.sets c.args.items.now c.loop-k.k c.item_set.result c.loop-k-test.true room c.loop-k.invariant
+    (c.item_set.ensures ∙ ap₂ (λ a b. gather (length m.states) (takes m i.name a b)) inside following)
 
 pub returns : goal.returns
 returns c =
     let all : c.loop-k.k ≡ length c.args.items.now = omega arith in
     let m : Machine = view c.args.machine.now c.args.covers.now in
     record {
-      table = ap (λ n. take (n + 1) (bits_of c.loop-k.sets)) (sym all) ∙ c.loop-k.invariant.0
+      table = ap (λ n. take (n + 1) (bits_of c.loop-k.sets)) (sym all) ∙ c.loop-k.invariant
           ∙ ap (state_sets m) (take_all c.loop-k.k c.args.items.now c.loop-k-test.false);
     }
