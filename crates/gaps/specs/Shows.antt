@@ -1,18 +1,18 @@
 -- What shows a side of an either-or, and what a gap is.
-use Rattle.std.specs.Prelude.{ℕ, Bool, true, false, not, ◌&&◌, ◌||◌, List, ◌==◌, nat_lt}
+use Rattle.std.specs.Prelude.{ℕ, Bool, true, false, not, ◌&&◌, ◌||◌, List, Some, None, ◌==◌, nat_lt}
 use Rattle.model.specs.declared.rows.Row.{Row}
 use Rattle.model.specs.Sets.{insert}
-use Rattle.ledger.specs.declared.table.Settled.{Settled}
-use Rattle.ledger.specs.declared.table.Settled.TheVariants.{Unsettled, Included, Excluded}
+use Rattle.ledger.specs.Settled.{Settled}
+use Rattle.model.specs.declared.verdict.Verdict.TheVariants.{Included, Excluded}
 use Rattle.theory.specs.Count.{any, some}
 use Rattle.theory.specs.Machine.{Machine}
 use Rattle.theory.specs.Inequality.{same_row, EitherOr, either_ors}
 
 -- a pair is settled as included
 abbrev pub included? : Settled → Bool
-included? Unsettled = false
-included? Included = true
-included? Excluded = false
+included? None = false
+included? (Some Included) = true
+included? (Some Excluded) = false
 
 -- a side is c against exactly {d}, and the pair of c and d is settled as included
 abbrev pub leans_on : (ℕ → ℕ → Settled) → Row → ℕ → Bool

@@ -9,9 +9,10 @@ ghost use Rattle.gaps.specs.Shows.{included?, leans, shown as is_shown};
 use crate::chains::slot;
 use crate::grounds::Grounds;
 use book::Same;
-use ledger::table::{Ledger, Settled};
+use ledger::table::Ledger;
 use model::rows::Row;
 use model::sets::StateSet;
+use model::verdict::Verdict;
 
 /// Whether the inequality is one of the rows.
 fn is_row(rows: &[Row], side: &Row) -> bool
@@ -26,14 +27,10 @@ fn is_row(rows: &[Row], side: &Row) -> bool
 }
 
 /// Whether a pair is settled as included.
-fn is_included(settled: Settled) -> bool
+fn is_included(settled: Option<Verdict>) -> bool
     ensures { result ≡ included? settled }
 {
-    match settled {
-        Settled::Unsettled => false,
-        Settled::Included => true,
-        Settled::Excluded => false,
-    }
+    settled == Some(Verdict::Included)
 }
 
 /// Whether the set has the state d and no other.

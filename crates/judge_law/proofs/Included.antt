@@ -3,8 +3,8 @@ use Rattle.std.proofs.Common.{◌≡◌, ℕ, ◌+◌, Bool, true, false, cond, 
 use Rattle.std.proofs.lemmas.Bool.{and_parts, and_cases, and_left, and_right, or_cases, or_left, cond-true, cond-false, not-false, not_from_true, eqb-true, false≢true}
 use Rattle.model.specs.declared.rows.Row.{Row}
 use Rattle.model.specs.Sets.{insert}
-use Rattle.ledger.specs.declared.table.Settled.{Settled}
-use Rattle.ledger.specs.declared.table.Settled.TheVariants.{Unsettled, Included, Excluded}
+use Rattle.ledger.specs.Settled.{Settled}
+use Rattle.model.specs.declared.verdict.Verdict.TheVariants.{Included, Excluded}
 use Rattle.theory.specs.Count.{any}
 use Rattle.theory.specs.Machine.{Machine}
 use Rattle.theory.specs.Inequality.{row, same_row, Holds, inconsistent, wide, EitherOr, either_ors, Member, here, there}
@@ -83,10 +83,10 @@ sides_shown S e is = ⊎_elim
     (λ b. inr (not-false _ b))
     (and_cases (not (S e.content)) (not (S e.rest)) is)
 
-included_is : (s : Settled) → included? s ≡ true → s ≡ Included
-included_is Unsettled e = elim (false≢true e) [ ]
-included_is Included e = refl
-included_is Excluded e = elim (false≢true e) [ ]
+included_is : (s : Settled) → included? s ≡ true → s ≡ Some Included
+included_is None e = elim (false≢true e) [ ]
+included_is (Some Included) e = refl
+included_is (Some Excluded) e = elim (false≢true e) [ ]
 
 -- what leans on the register holds if the register is true
 leans_true : (m : Machine) (settled : ℕ → ℕ → Settled) (rules : ℕ) → SettledTrue m settled → (r : Row) →

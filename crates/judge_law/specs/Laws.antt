@@ -1,10 +1,10 @@
 -- What the judgement of sheets means, for all machines, registers and sheets.
-use Rattle.std.specs.Prelude.{◌≡◌, ℕ, ◌<◌, ◌≤◌, true, false, ◌↔◌, List, length, None}
+use Rattle.std.specs.Prelude.{◌≡◌, ℕ, ◌<◌, ◌≤◌, true, false, ◌↔◌, List, length, Some, None}
 use Rattle.model.specs.declared.rows.Row.{Row}
 use Rattle.model.specs.declared.rows.Item.{Item}
 use Rattle.model.specs.Sets.{insert}
-use Rattle.ledger.specs.declared.table.Settled.{Settled}
-use Rattle.ledger.specs.declared.table.Settled.TheVariants.{Included}
+use Rattle.ledger.specs.Settled.{Settled}
+use Rattle.model.specs.declared.verdict.Verdict.TheVariants.{Included}
 use Rattle.theory.specs.Machine.{Machine, accepts}
 use Rattle.theory.specs.Items.{spelled}
 use Rattle.theory.specs.Inequality.{row, Holds, Member}
@@ -14,7 +14,7 @@ use Rattle.judge.specs.Judgement.{included_fault, excluded_fault}
 
 -- What is settled as included is true: the right rule has every hedge of the left one.
 abbrev pub SettledTrue : Machine → (ℕ → ℕ → Settled) → Type 0
-SettledTrue m settled = (c d : ℕ) → settled c d ≡ Included → Holds m (row c (insert 0 d))
+SettledTrue m settled = (c d : ℕ) → settled c d ≡ Some Included → Holds m (row c (insert 0 d))
 
 -- Every row of an accepted included sheet holds, if what is settled as included is true.
 abbrev pub RowsTrue : Type 0

@@ -10,7 +10,7 @@ use Rattle.theory.specs.Machine.{Machine}
 use Rattle.theory.specs.Inequality.{Member, here, there}
 use Rattle.theory.specs.Meeting.{meet, all}
 use Rattle.text.specs.Pieces.{whole_text, last_byte}
-use Rattle.ledger.specs.declared.table.Settled.{Settled}
+use Rattle.ledger.specs.Settled.{Settled}
 use Rattle.records.specs.declared.fault.CallFault.{CallFault}
 use Rattle.records.specs.declared.sheet.Sheet.{Sheet}
 use Rattle.model.specs.declared.verdict.Verdict.{Verdict}

@@ -15,7 +15,7 @@ use Rattle.meaning.proofs.Members.{member_at}
 use Rattle.meaning.proofs.Sets.{has_insert, has_none}
 use Rattle.meaning.proofs.Simulation.{rule_simulation}
 use Rattle.inequality.specs.Fits.{Fits, Named, Witness}
-use Rattle.ledger.specs.declared.table.Settled.{Settled}
+use Rattle.ledger.specs.Settled.{Settled}
 use Rattle.tables.specs.Plain.{Plain}
 use Rattle.load.specs.Loaded.{bodies_of, rules_of}
 use Rattle.judge_law.specs.Laws.{SettledTrue}

@@ -1,16 +1,14 @@
 -- What is entered keeps all that is settled true.
-use Rattle.std.proofs.Common.{◌≡◌, ℕ, ◌<◌, Bool, true, false, cond, ◌&&◌, eqb, ltb, sym, subst, ⊎_elim}
+use Rattle.std.proofs.Common.{◌≡◌, ℕ, ◌<◌, Bool, true, false, cond, ◌&&◌, Some, None, eqb, ltb, sym, subst, ⊎_elim}
 use mathlib.Core.HLevel.{Π_prop, →_prop}
 use mathlib.Core.Logic.{∥∥₁_prop}
 use Rattle.std.proofs.lemmas.Bool.{cond-true, cond-false, cases_Bool, and_parts, eqb-true}
 use Rattle.theory.specs.Language.{Expr}
 use Rattle.theory.specs.Machine.{Machine}
 use Rattle.theory.specs.Items.{spelled}
-use Rattle.ledger.specs.declared.table.Settled.{Settled}
-use Rattle.ledger.specs.declared.table.Settled.TheVariants.{Unsettled, Included, Excluded}
-use Rattle.ledger.specs.Settled.{enters}
+use Rattle.ledger.specs.Settled.{Settled, enters}
 use Rattle.model.specs.declared.verdict.Verdict.{Verdict}
-use Rattle.model.specs.declared.verdict.Verdict.TheVariants as verdict
+use Rattle.model.specs.declared.verdict.Verdict.TheVariants.{Included, Excluded}
 use Rattle.records.specs.Reading.{Found}
 use Rattle.tables.specs.Plain.{Plain}
 use Rattle.load.specs.Loaded.{bodies_of, rules_of}
@@ -47,7 +45,7 @@ same_true bodies count covers before after all told c d = subst (Truly bodies co
 
 -- no pair is settled
 pub unsettled_true : (bodies : ℕ → Expr) (count : ℕ) (covers : ℕ → ℕ → Bool) (after : ℕ → ℕ → Settled) →
-    ((c d : ℕ) → after c d ≡ Unsettled) → AllTrue bodies count covers after
+    ((c d : ℕ) → after c d ≡ None) → AllTrue bodies count covers after
 unsettled_true bodies count covers after told c d = subst (Truly bodies count covers c d) (sym (told c d)) tt
 
 -- where all that is settled is true but for a proof, so is a claim that follows from it
@@ -56,8 +54,8 @@ includes_prop bodies covers a b = Π_prop (λ h. →_prop ∥∥₁_prop)
 
 -- the claim of a sheet as what its pair is settled as
 pub kind_settles : (t : Plain) (m : Machine) (f : Found) (v : Verdict) (s : Settled) →
-    f.at.left < rules_of t → f.at.right < rules_of t → s ≡ elim v [ verdict.Included ↦ Included | verdict.Excluded ↦ Excluded ] → KindTrue t m f v →
+    f.at.left < rules_of t → f.at.right < rules_of t → s ≡ Some v → KindTrue t m f v →
     Truly (bodies_of t) (rules_of t) m.covers f.at.left f.at.right s
-kind_settles t m f verdict.Included s la lb e is = subst (Truly (bodies_of t) (rules_of t) m.covers f.at.left f.at.right) (sym e) (la, lb, is)
-kind_settles t m f verdict.Excluded s la lb e is =
+kind_settles t m f Included s la lb e is = subst (Truly (bodies_of t) (rules_of t) m.covers f.at.left f.at.right) (sym e) (la, lb, is)
+kind_settles t m f Excluded s la lb e is =
     subst (Truly (bodies_of t) (rules_of t) m.covers f.at.left f.at.right) (sym e) (la, lb, ∣ (spelled f.items, is) ∣₁)

@@ -1,9 +1,9 @@
 -- What is claimed of two rules of a grammar.
-use Rattle.std.specs.Prelude.{ℕ, ◌<◌, Bool}
+use Rattle.std.specs.Prelude.{ℕ, ◌<◌, Bool, Some, None}
 use Rattle.theory.specs.Hedge.{Hedge}
 use Rattle.theory.specs.Language.{Expr, rule, In}
-use Rattle.ledger.specs.declared.table.Settled.{Settled}
-use Rattle.ledger.specs.declared.table.Settled.TheVariants.{Unsettled, Included, Excluded}
+use Rattle.ledger.specs.Settled.{Settled}
+use Rattle.model.specs.declared.verdict.Verdict.TheVariants.{Included, Excluded}
 
 -- the language of rule k has the hedge h
 abbrev pub Has : (ℕ → Expr) → (ℕ → ℕ → Bool) → ℕ → Hedge → Type 0
@@ -23,9 +23,9 @@ Lacks bodies covers a b = ∥ ((h : Hedge) × Offends bodies covers a b h) ∥�
 
 -- what a pair of rules is settled as is true of it; `count` is the number of rules
 abbrev pub Truly : (ℕ → Expr) → ℕ → (ℕ → ℕ → Bool) → ℕ → ℕ → Settled → Type 0
-Truly bodies count covers a b Unsettled = Unit {0}
-Truly bodies count covers a b Included = (a < count) × (b < count) × Includes bodies covers a b
-Truly bodies count covers a b Excluded = (a < count) × (b < count) × Lacks bodies covers a b
+Truly bodies count covers a b None = Unit {0}
+Truly bodies count covers a b (Some Included) = (a < count) × (b < count) × Includes bodies covers a b
+Truly bodies count covers a b (Some Excluded) = (a < count) × (b < count) × Lacks bodies covers a b
 
 -- all that is settled is true
 abbrev pub AllTrue : (ℕ → Expr) → ℕ → (ℕ → ℕ → Bool) → (ℕ → ℕ → Settled) → Type 0

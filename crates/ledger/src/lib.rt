@@ -6,31 +6,32 @@ ghost use Rattle.ledger.specs.Settled.{at, enters, unsettled};
 
 pub mod table;
 
+use model::verdict::Verdict;
 use std::alloc::{AllocError, Global};
-use table::{Ledger, Settled};
+use table::Ledger;
 
 impl Ledger {
     /// A table in which every pair is unsettled.
     pub fn new(heap: Global) -> Result<Ledger, AllocError>
         ensures { IfOk result (λ l. (a b : ℕ) → at l a b ≡ unsettled) }
     {
-        let pairs = vec![in heap; Settled::Unsettled; 1024]?;
+        let pairs = vec![in heap; None; 1024]?;
         Ok(Ledger { pairs })
     }
 
     /// How the pair of the rules a and b is settled; a number above 31 is no rule.
-    pub fn look_up(&self, a: usize, b: usize) -> Settled
+    pub fn look_up(&self, a: usize, b: usize) -> Option<Verdict>
         ensures { result ≡ at self.now a b }
     {
         if a < 32 && b < 32 {
             self.pairs[a * 32 + b]
         } else {
-            Settled::Unsettled
+            None
         }
     }
 
     /// Settles the pair of the rules a and b, and no other.
-    pub fn enter(&mut self, a: usize, b: usize, verdict: Settled)
+    pub fn enter(&mut self, a: usize, b: usize, verdict: Option<Verdict>)
         ensures { (c d : ℕ) → at self.new c d ≡ enters (at self.old) a b verdict c d }
     {
         if a < 32 && b < 32 {
@@ -42,8 +43,6 @@ impl Ledger {
     pub fn clear(&mut self)
         ensures { (a b : ℕ) → at self.new a b ≡ unsettled }
     {
-        for pair in self.pairs.iter_mut() {
-            *pair = Settled::Unsettled;
-        }
+        self.pairs.as_mut_slice().fill(None);
     }
 }

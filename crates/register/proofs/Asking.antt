@@ -1,12 +1,12 @@
 -- What a question was given, and what its answer gives.
-use Rattle.std.proofs.Common.{◌≡◌, ℕ, ◌<◌, ◌≤◌, true, ltb, leb, List, take, Ok, Result, sym, subst, arith}
+use Rattle.std.proofs.Common.{◌≡◌, ℕ, ◌<◌, ◌≤◌, true, ltb, leb, List, take, Some, Ok, Result, sym, subst, arith}
 use Rattle.std.proofs.lemmas.Bool.{ltb-true, lt-ltb, le-leb, and_from}
 use Rattle.model.specs.declared.rows.Row.{Row}
 use Rattle.model.specs.declared.rows.Item.{Item}
 use Rattle.theory.specs.Machine.{Machine}
 use Rattle.theory.specs.Items.{spelled}
-use Rattle.ledger.specs.declared.table.Settled.{Settled}
-use Rattle.ledger.specs.declared.table.Settled.TheVariants as settled
+use Rattle.ledger.specs.Settled.{Settled}
+use Rattle.model.specs.declared.verdict.Verdict.TheVariants as verdict
 use Rattle.records.specs.declared.fault.CallFault.{CallFault}
 use Rattle.records.proofs.Chained.{then_ok, cond_ok}
 use Rattle.search.specs.declared.answer.Answer.{Answer}
@@ -61,9 +61,9 @@ pub still_true : (t : Plain) (mach : Machine) (before after : ℕ → ℕ → Se
     a < rules_of t → b < rules_of t → AllTrue (bodies_of t) (rules_of t) mach.covers before → VerdictTrue t mach a b ans rows items →
     ((c d : ℕ) → after c d ≡ question_settles before a b (Ok ans) c d) → AllTrue (bodies_of t) (rules_of t) mach.covers after
 still_true t mach before after a b (Included k n) rows items la lb all is told =
-    enters_true (bodies_of t) (rules_of t) mach.covers before after a b settled.Included all (la, lb, is.0) told
+    enters_true (bodies_of t) (rules_of t) mach.covers before after a b (Some verdict.Included) all (la, lb, is.0) told
 still_true t mach before after a b (Excluded k n) rows items la lb all is told =
-    enters_true (bodies_of t) (rules_of t) mach.covers before after a b settled.Excluded all (la, lb, ∣ (spelled (take n items), is.0) ∣₁) told
+    enters_true (bodies_of t) (rules_of t) mach.covers before after a b (Some verdict.Excluded) all (la, lb, ∣ (spelled (take n items), is.0) ∣₁) told
 still_true t mach before after a b (Wide k) rows items la lb all is told = same_true (bodies_of t) (rules_of t) mach.covers before after all told
 still_true t mach before after a b (OutOfRows k) rows items la lb all is told = same_true (bodies_of t) (rules_of t) mach.covers before after all told
 

@@ -1,10 +1,10 @@
 -- What a look-up finds.
-use Rattle.std.proofs.Common.{◌≡◌, ℕ, Ok, sym, ap, ◌∙◌, subst}
+use Rattle.std.proofs.Common.{◌≡◌, ℕ, Some, None, Ok, sym, ap, ◌∙◌, subst}
 use mathlib.Core.HLevel.{Unit-prop}
 use mathlib.Core.Logic.{∥∥₁_elim, ∥∥₁_prop}
 use Rattle.theory.specs.Machine.{Machine}
-use Rattle.ledger.specs.declared.table.Settled.{Settled}
-use Rattle.ledger.specs.declared.table.Settled.TheVariants.{Unsettled, Included, Excluded}
+use Rattle.ledger.specs.Settled.{Settled}
+use Rattle.model.specs.declared.verdict.Verdict.TheVariants.{Included, Excluded}
 use Rattle.records.specs.Chains.{then}
 use Rattle.tables.specs.Plain.{Plain}
 use Rattle.load.specs.Loaded.{bodies_of, rules_of}
@@ -21,14 +21,14 @@ looked rules settled a b s u v ea eb es =
 
 -- what is settled truly is true
 truly_true : (t : Plain) (m : Machine) (a b : ℕ) (s : Settled) → Truly (bodies_of t) (rules_of t) m.covers a b s → SettledTrue t m a b s
-truly_true t m a b Unsettled is = tt
-truly_true t m a b Included is = is.2
-truly_true t m a b Excluded is = is.2
+truly_true t m a b None is = tt
+truly_true t m a b (Some Included) is = is.2
+truly_true t m a b (Some Excluded) is = is.2
 
 settled_prop : (t : Plain) (m : Machine) (a b : ℕ) (s : Settled) (p q : SettledTrue t m a b s) → p ≡ q
-settled_prop t m a b Unsettled = Unit-prop
-settled_prop t m a b Included = includes_prop (bodies_of t) m.covers a b
-settled_prop t m a b Excluded = ∥∥₁_prop
+settled_prop t m a b None = Unit-prop
+settled_prop t m a b (Some Included) = includes_prop (bodies_of t) m.covers a b
+settled_prop t m a b (Some Excluded) = ∥∥₁_prop
 
 pub found_true : (t : Plain) (m : Machine) (settled : ℕ → ℕ → Settled) (a b : ℕ) (s : Settled) →
     ∥ AllTrue (bodies_of t) (rules_of t) m.covers settled ∥₁ → s ≡ settled a b → SettledTrue t m a b s

@@ -9,9 +9,7 @@ use Rattle.model.specs.declared.rows.Row.{Row}
 use Rattle.model.specs.declared.rows.Item.{Item}
 use Rattle.model.specs.Blank.{blank_row, blank_item}
 use Rattle.theory.specs.Machine.{Machine}
-use Rattle.ledger.specs.declared.table.Settled.{Settled}
-use Rattle.ledger.specs.declared.table.Settled.TheVariants.{Included as settled_included, Excluded as settled_excluded}
-use Rattle.ledger.specs.Settled.{enters}
+use Rattle.ledger.specs.Settled.{Settled, enters}
 use Rattle.records.specs.declared.fault.CallFault.{CallFault}
 use Rattle.records.specs.declared.sheet.Sheet.{Sheet}
 use Rattle.model.specs.declared.verdict.Verdict.{Verdict}
@@ -174,8 +172,4 @@ entered t m g settled all n k text s u rows items j after v told is =
     let told' : (c d : ℕ) → after c d ≡ enters settled j.f.at.left j.f.at.right v c d = λ c d. told c d ∙ ap (λ x. enters settled x.left x.right v c d) (sym j.sheet) in
     ∥∥₁_map all (λ (every : AllTrue (bodies_of t) (rules_of t) m.covers settled).
     enters_true (bodies_of t) (rules_of t) m.covers settled after j.f.at.left j.f.at.right v every
-    (kind_settles t m j.f j.f.at.verdict v pair.0 pair.1 (e ∙ settles_by j.f.at.verdict) true_claim) told')
-  where
-    settles_by : (w : Verdict) → settles w ≡ elim w [ Included ↦ settled_included | Excluded ↦ settled_excluded ]
-    settles_by Included = refl
-    settles_by Excluded = refl
+    (kind_settles t m j.f j.f.at.verdict v pair.0 pair.1 e true_claim) told')

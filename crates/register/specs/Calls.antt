@@ -1,5 +1,5 @@
 -- What the calls on a register answer, and what they leave.
-use Rattle.std.specs.Prelude.{◌≡◌, ℕ, cond, List, length, take, Ok, Err, Result, nat_lt}
+use Rattle.std.specs.Prelude.{◌≡◌, ℕ, cond, List, length, take, Some, None, Ok, Err, Result, nat_lt}
 use Rattle.model.specs.declared.rows.Row.{Row}
 use Rattle.model.specs.declared.rows.Item.{Item}
 use Rattle.theory.specs.Machine.{Machine}
@@ -13,9 +13,7 @@ use Rattle.judge.specs.Judgement.{included_fault, excluded_fault, refusal}
 use Rattle.judge.specs.Faults.{no_memory}
 use Rattle.records.specs.Chains.{then}
 use Rattle.records.specs.Reading.{counted}
-use Rattle.ledger.specs.declared.table.Settled.{Settled}
-use Rattle.ledger.specs.declared.table.Settled.TheVariants.{Unsettled, Included as settled_included, Excluded as settled_excluded}
-use Rattle.ledger.specs.Settled.{enters}
+use Rattle.ledger.specs.Settled.{Settled, enters}
 use Rattle.search.specs.declared.answer.Answer.{Answer}
 use Rattle.search.specs.declared.answer.Answer.TheVariants.{Included, Excluded, Wide, OutOfRows}
 use Rattle.search.specs.Answered.{root_of, suits, Asked, Answered, Blanked}
@@ -58,16 +56,15 @@ QuestionAnswered m a b limit room (Err f) rows items = Blanked limit room rows i
 
 -- the settled pairs after a question: its verdict is entered, nothing else changes
 abbrev pub question_settles : (ℕ → ℕ → Settled) → ℕ → ℕ → Result Answer CallFault → ℕ → ℕ → Settled
-question_settles before a b (Ok (Included k n)) c d = enters before a b settled_included c d
-question_settles before a b (Ok (Excluded k n)) c d = enters before a b settled_excluded c d
+question_settles before a b (Ok (Included k n)) c d = enters before a b (Some claim_included) c d
+question_settles before a b (Ok (Excluded k n)) c d = enters before a b (Some claim_excluded) c d
 question_settles before a b (Ok (Wide k)) c d = before c d
 question_settles before a b (Ok (OutOfRows k)) c d = before c d
 question_settles before a b (Err f) c d = before c d
 
 -- how a verdict settles its pair
 abbrev pub settles : Verdict → Settled
-settles claim_included = settled_included
-settles claim_excluded = settled_excluded
+settles v = Some v
 
 -- whether a sheet that was read shows its claim: its rows, or its items, by the rules for its kind
 abbrev pub sheet_judged : Machine → (ℕ → ℕ → Settled) → ℕ → ℕ → Sheet → List Row → List Item → Result (Unit {0}) SheetFault
@@ -91,9 +88,9 @@ looked_up rules settled a b =
 
 -- what a pair is settled as is true of it
 abbrev pub SettledTrue : Plain → Machine → ℕ → ℕ → Settled → Type 0
-SettledTrue t m a b Unsettled = Unit {0}
-SettledTrue t m a b settled_included = Includes (bodies_of t) m.covers a b
-SettledTrue t m a b settled_excluded = Lacks (bodies_of t) m.covers a b
+SettledTrue t m a b None = Unit {0}
+SettledTrue t m a b (Some claim_included) = Includes (bodies_of t) m.covers a b
+SettledTrue t m a b (Some claim_excluded) = Lacks (bodies_of t) m.covers a b
 
 -- what a look-up says is true
 abbrev pub LookUpTrue : Plain → Machine → ℕ → ℕ → Result Settled CallFault → Type 0

@@ -6,12 +6,12 @@ ghost use Rattle.tables.specs.Plain.{plain};
 ghost use Rattle.register.specs.Calls.{looked_up, LookUpTrue};
 
 use crate::register::Register;
-use ledger::table::Settled;
+use model::verdict::Verdict;
 use records::fault::CallFault;
 
 impl Register<'_, '_> {
     /// How a pair is settled.
-    pub fn look_up(&self, left: usize, right: usize) -> Result<Settled, CallFault>
+    pub fn look_up(&self, left: usize, right: usize) -> Result<Option<Verdict>, CallFault>
         ensures result { result ≡ looked_up (length (plain self.now.grammar.now.tables).bodies) (at self.now.ledger) left right }
         ensures truth { LookUpTrue (plain self.now.grammar.now.tables) (view self.now.grammar.now.machine self.now.covers) left right result }
     {

@@ -9,8 +9,9 @@ ghost use Rattle.register.specs.Calls.{question_checked, Agrees, QuestionLeaves,
 
 use crate::blank::blank;
 use crate::register::Register;
-use ledger::table::{Ledger, Settled};
+use ledger::table::Ledger;
 use model::rows::{Item, Row};
+use model::verdict::Verdict;
 use records::fault::CallFault;
 use records::read::counts;
 use search::answer::{Answer, question};
@@ -20,8 +21,8 @@ fn note(ledger: &mut Ledger, left: usize, right: usize, answer: Answer)
     ensures { (c d : ℕ) → at ledger.new c d ≡ question_settles (at ledger.old) left right (Ok answer) c d }
 {
     match answer {
-        Answer::Included { .. } => ledger.enter(left, right, Settled::Included),
-        Answer::Excluded { .. } => ledger.enter(left, right, Settled::Excluded),
+        Answer::Included { .. } => ledger.enter(left, right, Some(Verdict::Included)),
+        Answer::Excluded { .. } => ledger.enter(left, right, Some(Verdict::Excluded)),
         Answer::Wide { .. } => {}
         Answer::OutOfRows { .. } => {}
     }

@@ -10,28 +10,17 @@ ghost use Rattle.writing.specs.Checks.{sheet_written};
 ghost use Rattle.writing.specs.Texts.{sheet_text};
 ghost use Rattle.writing.specs.Wrote.{filled};
 ghost use Rattle.law.specs.Sheets.{sheet_outcome, sheet_answer, rows_left, items_left, OutcomeTrue};
-ghost use Rattle.register.specs.Calls.{settles as settles_as, sheet_judged, sheet_settles, RefusedBlank};
+ghost use Rattle.register.specs.Calls.{sheet_judged, sheet_settles, RefusedBlank};
 
 use crate::blank::{blank, first};
 use crate::register::Register;
 use judge::fault::SheetFault;
 use judge::rows::{judge_excluded, judge_included};
-use ledger::table::Settled;
 use model::rows::{Item, Row};
 use records::fault::CallFault;
 use records::read::read_sheet;
 use records::sheet::{Sheet, Verdict};
 use writing::write::write_sheet;
-
-/// How a verdict settles its pair.
-fn settles(verdict: Verdict) -> Settled
-    ensures { result ≡ settles_as verdict }
-{
-    match verdict {
-        Verdict::Included => Settled::Included,
-        Verdict::Excluded => Settled::Excluded,
-    }
-}
 
 impl Register<'_, '_> {
     /// Reads a sheet's text.
@@ -107,7 +96,7 @@ impl Register<'_, '_> {
             return Err(fault);
         }
         self.ledger
-            .enter(sheet.left, sheet.right, settles(sheet.verdict));
+            .enter(sheet.left, sheet.right, Some(sheet.verdict));
         Ok(sheet)
     }
 

@@ -2,9 +2,7 @@
 use Rattle.std.specs.Prelude.{ℕ, min, List, [], ◌∷◌, reverse, Some, None, vec_items, Option}
 use Rattle.model.specs.declared.rows.Row.{Row}
 use Rattle.model.specs.declared.rows.Item.{Item}
-use Rattle.ledger.specs.declared.table.Settled.{Settled}
-use Rattle.ledger.specs.declared.table.Settled.TheVariants.{Unsettled}
-use Rattle.ledger.specs.Settled.{enters}
+use Rattle.ledger.specs.Settled.{Settled, enters}
 use Rattle.records.specs.declared.sheet.Sheet.{Sheet}
 use Rattle.model.specs.declared.verdict.Verdict.TheVariants as verdict
 use Rattle.search.specs.declared.answer.Answer.{Answer}
@@ -108,11 +106,11 @@ after before (sheet text m n) r = with_sheet before (accepted_sheet r)
 after before (member k text m n) r = before
 after before (write room) r = before
 after before (look_up a b) r = before
-after before clear r = λ c d. Unsettled
+after before clear r = λ c d. None
 
 -- what stands settled after a history
 abbrev pub settled_after : List Event → ℕ → ℕ → Settled
-settled_after [] = λ a b. Unsettled
+settled_after [] = λ a b. None
 settled_after (e ∷ past) = after (settled_after past) e.call e.reply
 
 -- a sheet with its rows and items

@@ -6,7 +6,7 @@ use Rattle.model.specs.declared.rows.Item.{Item}
 use Rattle.model.specs.Blank.{blank_row, blank_item}
 use Rattle.theory.specs.Machine.{Machine}
 use Rattle.theory.specs.Items.{spelled}
-use Rattle.ledger.specs.declared.table.Settled.{Settled}
+use Rattle.ledger.specs.Settled.{Settled}
 use Rattle.records.specs.declared.fault.CallFault.{CallFault}
 use Rattle.records.specs.declared.sheet.Sheet.{Sheet}
 use Rattle.model.specs.declared.verdict.Verdict.{Verdict}

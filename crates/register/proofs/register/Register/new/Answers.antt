@@ -1,7 +1,7 @@
 use Rattle.std.proofs.Common.{◌≡◌, length, sym, refl, ap, ◌∙◌, subst}
 use Rattle.tables.specs.Plain.{plain}
 use Rattle.load.specs.Loaded.{bodies_of, rules_of}
-use Rattle.ledger.specs.declared.table.Settled.{Settled}
+use Rattle.ledger.specs.Settled.{Settled}
 use Rattle.sides.specs.View.{covers_of, table_of}
 use Rattle.law.specs.Claims.{Truly}
 use Rattle.law.proofs.Relations.{tabled, view_under, grounds}
