@@ -1,6 +1,7 @@
 -- Derivatives by numbers: lists of them, and what the program computes node by node.
 use Rattle.std.proofs.Common.{◌≡◌, ℕ, suc, ◌+◌, ◌-◌, ◌<◌, ◌≤◌, Bool, true, false, cond, ◌&&◌, eqb, ltb, List, [], ◌∷◌, ◌++◌, map, length, get_or, take, drop, sym, refl, ap, ◌∙◌, subst, ap₂, ⊎_elim, arith}
 use native.Mathlib.Nat.{sub_self}
+use Rattle.std.proofs.Math.Bool.{and_assoc}
 use Rattle.std.proofs.lemmas.Bool.{cases_lt, cond-true, cond-false, lt-ltb, le-ltb, eq-eqb, eqb-true}
 use Rattle.std.proofs.lemmas.List.{get_or_past, drop_more, length-append, drop-append-le, take-append-le, length-drop, drop_at, take_all}
 use Rattle.model.specs.declared.nodes.Node.{Node}
@@ -116,7 +117,8 @@ same_number_tree nodes i j fine p q = same_bool (eqb i j) (same_expr (tree nodes
 pub same_told : (nodes : List Node) → Fine nodes → (x y : Derivative) → InBook (length nodes) x → InBook (length nodes) y →
     same_derivative x y ≡ same_derived (as_trees nodes x) (as_trees nodes y)
 same_told nodes fine x y p q =
-    ap₂ (λ a b. eqb x.0 y.0 && (a && b))
+    and_assoc (eqb x.0 y.0) (eqb x.1 y.1) (eqb x.2 y.2)
+    ∙ ap₂ (λ a b. eqb x.0 y.0 && (a && b))
     (same_number_tree nodes x.1 y.1 fine p.0 q.0)
     (same_number_tree nodes x.2 y.2 fine p.1 q.1)
 

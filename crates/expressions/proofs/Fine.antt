@@ -1,59 +1,25 @@
 -- Books of expressions as they are added to.
-use Rattle.std.proofs.Common.{◌≡◌, ℕ, zero, suc, ◌<◌, ◌≤◌, Bool, true, false, cond, eqb, List, [], ◌∷◌, ◌++◌, length, get_or, drop, sym, refl, ap, ◌∙◌, subst, ap₂, ⊎_elim, append_assoc, append-nil, arith}
+use Rattle.std.proofs.Common.{◌≡◌, ℕ, suc, ◌<◌, ◌≤◌, Bool, true, false, cond, List, [], ◌∷◌, ◌++◌, length, get_or, drop, sym, refl, ap, ◌∙◌, subst, ap₂, ⊎_elim, append_assoc, append-nil, rules, arith}
 use Rattle.std.proofs.lemmas.List.{length_push, length-append, get_or_append_left, get_or_push, drop_at}
-use Rattle.std.proofs.lemmas.Bool.{cases_lt, cond-true, lt-ltb, and_parts, and_from, eqb-true, eq-eqb}
+use Rattle.std.proofs.lemmas.Bool.{cases_lt, cond-true, lt-ltb}
 use Rattle.model.specs.declared.nodes.Node.{Node}
 use Rattle.model.specs.declared.nodes.Node.TheVariants.{Nothing, Empty, Simple, Rule, Element, Union, Seq, Star}
-use Rattle.model.specs.Machine.{Derivative}
 use Rattle.theory.specs.Language.{element, union, seq, star}
 use Rattle.theory.specs.Count.{enter}
 use Rattle.expressions.specs.Numbers.{tree, built}
-use Rattle.expressions.specs.Records.{place, same_node, same_derivative, key}
+use Rattle.book.specs.Place.{place}
+use Rattle.expressions.specs.Records.{same_node}
 use Rattle.expressions.specs.Fine.{PartsBelow, make, Founded, Distinct, Fine, Below, Grows}
 use Rattle.expressions.proofs.Trees.{tree_built, tree_stays}
 use Rattle.expressions.proofs.Books.{place_le, enter_old, enter_new}
 
 -- sameness of nodes
 
-same_refl : (a : Derivative) → same_derivative a a ≡ true
-same_refl a = and_from _ _ (eq-eqb a.0 a.0 refl) (and_from _ _ (eq-eqb a.1 a.1 refl) (eq-eqb a.2 a.2 refl))
-
-pub same_triple : (a b : Derivative) → same_derivative a b ≡ true → a ≡ b
-same_triple a b e =
-    let first = and_parts (eqb a.0 b.0) _ e in
-    let more = and_parts (eqb a.1 b.1) (eqb a.2 b.2) first.1 in
-    let p = eqb-true a.0 b.0 first.0 in
-    let q = eqb-true a.1 b.1 more.0 in
-    let r = eqb-true a.2 b.2 more.1 in
-    λ i. (p i, q i, r i)
-
--- a node from its key
-from_key : Derivative → Node
-from_key k = pick k.0 k.1 k.2
-  where
-    pick : ℕ → ℕ → ℕ → Node
-    pick zero a b = Nothing
-    pick (suc zero) a b = Empty
-    pick (suc (suc zero)) a b = Simple a
-    pick (suc (suc (suc zero))) a b = Rule a
-    pick (suc (suc (suc (suc zero)))) a b = Element a b
-    pick (suc (suc (suc (suc (suc zero))))) a b = Union a b
-    pick (suc (suc (suc (suc (suc (suc zero)))))) a b = Seq a b
-    pick (suc (suc (suc (suc (suc (suc (suc n))))))) a b = Star a
-
-from_key_of : (n : Node) → from_key (key n) ≡ n
-unfolding from_key
-from_key_of Nothing = refl
-from_key_of Empty = refl
-from_key_of (Simple n) = refl
-from_key_of (Rule k) = refl
-from_key_of (Element n c) = refl
-from_key_of (Union a b) = refl
-from_key_of (Seq a b) = refl
-from_key_of (Star a) = refl
+same_refl : (a : Node) → same_node a a ≡ true
+same_refl a = search rules
 
 pub same_nodes : (a b : Node) → same_node a b ≡ true → a ≡ b
-same_nodes a b e = sym (from_key_of a) ∙ ap from_key (same_triple (key a) (key b) e) ∙ from_key_of b
+same_nodes a b e = search rules
 
 -- places in a longer book
 
@@ -212,7 +178,7 @@ enter_holds nodes x i after fine parts is e within small = ⊎_elim
         (λ (past : length nodes ≤ k).
         let at : length nodes ≡ k = omega (arith, length_push nodes x) in
         ap (place same_node (nodes ++ x ∷ [])) (get_or_push nodes x Nothing k at)
-        ∙ place_last same_node nodes x (same_refl (key x)) new ∙ at)
+        ∙ place_last same_node nodes x (same_refl x) new ∙ at)
         (cases_lt k (length nodes))
 
 -- the expression of what was entered

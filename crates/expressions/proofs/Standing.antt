@@ -16,7 +16,8 @@ use Rattle.meaning.proofs.Functions.{nullable_sound, nullable_complete, derivati
 use Rattle.meaning.proofs.Rules.{nulls_sound, nulls_complete, ders_sound, ders_complete}
 use Rattle.meaning.proofs.Members.{member_map, map_member}
 use Rattle.expressions.specs.Numbers.{tree, null_at}
-use Rattle.expressions.specs.Records.{place, same_number}
+use Rattle.book.specs.Place.{place}
+use Rattle.expressions.specs.Records.{same_number}
 use Rattle.expressions.specs.Fine.{Fine, Below, Grows, shown}
 use Rattle.expressions.specs.Derived.{part, as_trees, InBook, AllIn, ders_below, ders_at}
 use Rattle.expressions.specs.States.{named, Separate, Extends, Stated, AllStated, total}

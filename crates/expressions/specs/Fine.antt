@@ -4,7 +4,8 @@ use Rattle.model.specs.declared.nodes.Node.{Node}
 use Rattle.model.specs.declared.nodes.Node.TheVariants.{Nothing, Empty, Simple, Rule, Element, Union, Seq, Star}
 use Rattle.theory.specs.Language.{Expr, none, empty, simple, rule, element, union, seq, star}
 use Rattle.expressions.specs.Numbers.{tree}
-use Rattle.expressions.specs.Records.{place, same_node}
+use Rattle.book.specs.Place.{place}
+use Rattle.expressions.specs.Records.{same_node}
 
 -- the parts of a node have numbers below n
 abbrev pub PartsBelow : ℕ → Node → Type 0

@@ -19,7 +19,8 @@ use Rattle.theory.specs.Count.{enter}
 use Rattle.theory.specs.Inequality.{here}
 use Rattle.meaning.proofs.Members.{member_left, member_right}
 use Rattle.expressions.specs.Numbers.{tree, null_at}
-use Rattle.expressions.specs.Records.{place, same_number}
+use Rattle.book.specs.Place.{place}
+use Rattle.expressions.specs.Records.{same_number}
 use Rattle.expressions.specs.Fine.{Fine, Below, Grows, shown}
 use Rattle.expressions.specs.Derived.{part, as_trees, AllIn, ders_at}
 use Rattle.expressions.specs.States.{named, Separate, Extends, Stated, total}

@@ -1,7 +1,7 @@
 -- What comes of entering a record in a book.
 use Rattle.std.specs.Prelude.{◌≡◌, ℕ, ◌<◌, ◌≤◌, Bool, true, List, length, Ok, Err, Result, nat_lt}
 use Rattle.theory.specs.Count.{enter}
-use Rattle.expressions.specs.Records.{place}
+use Rattle.book.specs.Place.{place}
 use Rattle.states.specs.declared.error.Limit.{Limit}
 use Rattle.states.specs.declared.error.Limit.TheVariants.{TooLarge, NoMemory}
 

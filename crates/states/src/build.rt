@@ -6,8 +6,8 @@ ghost use Rattle.expressions.specs.States.{Separate};
 ghost use Rattle.states.specs.Derive.{Inside, Right};
 ghost use Rattle.states.specs.Build.{Named, Numbering, Stating, SoFar, Built};
 
-use crate::book::enter;
 use crate::derive::{DERIVATIVES, Span, Work, derive};
+use crate::entering::enter;
 use crate::error::{BuildError, Limit};
 use crate::grammar::{EXPRESSIONS, Grammar, Rules, read};
 use crate::nullable::{Known, RULES, nullable};

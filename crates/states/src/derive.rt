@@ -9,7 +9,7 @@ ghost use Rattle.expressions.specs.Derived.{part, AllIn};
 ghost use Rattle.states.specs.Read.{Numbered};
 ghost use Rattle.states.specs.Derive.{Inside, IsEmpty, Kept, Carried, InTurn, Right, Went};
 
-use crate::book::enter;
+use crate::entering::enter;
 use crate::error::Limit;
 use crate::grammar::{EXPRESSIONS, Rules, earlier_of};
 use crate::nullable::{Known, nullable};

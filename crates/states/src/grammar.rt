@@ -6,7 +6,7 @@ ghost use Rattle.expressions.specs.Fine.{Fine, Below, Grows, shown};
 ghost use Rattle.states.specs.Read.{Numbered, Moved, StandFor, mentions, Read};
 ghost use Rattle.expressions.specs.Numbers.{earlier, body_at};
 
-use crate::book::enter;
+use crate::entering::enter;
 use crate::error::Limit;
 use model::nodes::Node;
 use std::alloc::Global;

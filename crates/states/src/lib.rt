@@ -1,9 +1,9 @@
 // Builds the state machine of a grammar from its nodes and the bodies of its rules.
 #![tactic(auto)]
 
-mod book;
 pub mod build;
 mod derive;
+mod entering;
 pub mod error;
 mod grammar;
 mod nullable;
