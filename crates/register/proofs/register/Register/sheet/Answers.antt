@@ -1,4 +1,4 @@
-use Rattle.std.proofs.Common.{ℕ, length, replicate, Ok, Err, vec_len, sym, ap, ◌∙◌, subst, Bor}
+use Rattle.std.proofs.Common.{ℕ, length, replicate, Some, Ok, Err, vec_len, sym, refl, ap, ◌∙◌, subst, Bor}
 use Rattle.model.specs.Blank.{blank_row, blank_item}
 use Rattle.tables.specs.Plain.{Plain, plain}
 use Rattle.theory.specs.Machine.{Machine}
@@ -47,10 +47,9 @@ invariant_of-self c =
     let j = judging t m (at self.ledger) (vec_len self.sets) n k c.args.text.now c.in_ok-sheet.sheet (Ok c.in_default.field-0)
     c.read.new.rows c.read.new.items self.sized.1
     c.in_ok-sheet.ensures.result c.in_ok-sheet.ensures.rows c.in_ok-sheet.ensures.items c.in_default.ensures.judged in
-    let all = entered t m self.grounded (at self.ledger) self.truth n k c.args.text.now c.in_ok-sheet.sheet c.in_default.field-0 _ _ j (at c.enter.new.self) c.settles.result
+    let all = entered t m self.grounded (at self.ledger) self.truth n k c.args.text.now c.in_ok-sheet.sheet c.in_default.field-0 _ _ j (at c.enter.new.self) (Some c.in_ok-sheet.sheet.verdict)
     (λ a b. c.enter.ensures a b
-    ∙ ap (λ x. enters (at x) c.in_ok-sheet.sheet.left c.in_ok-sheet.sheet.right c.settles.result a b) c.judge.ensures.ledger)
-    c.settles.ensures in
+    ∙ ap (λ x. enters (at x) c.in_ok-sheet.sheet.left c.in_ok-sheet.sheet.right (Some c.in_ok-sheet.sheet.verdict) a b) c.judge.ensures.ledger) refl in
     let P : Covers → Type 0 = λ v. ∥ AllTrue (bodies_of t) (rules_of t) (covers_of v) (at c.enter.new.self) ∥₁ in
     let Q : Bor Grammar → Type 0 = λ g. ∥ AllTrue (bodies_of (plain g.now.tables)) (rules_of (plain g.now.tables)) (covers_of c.judge.new.self.covers) (at c.enter.new.self) ∥₁ in
     record { sized = c.judge.new.self.sized; grounded = c.judge.new.self.grounded; truth = subst Q (sym c.judge.ensures.grammar) (subst P (sym c.judge.ensures.covers) all) }
@@ -77,8 +76,7 @@ returns c =
       truth = l.truth;
       written = l.written;
       settled = λ a b. c.enter.ensures a b
-          ∙ ap (λ x. enters (at x) c.in_ok-sheet.sheet.left c.in_ok-sheet.sheet.right c.settles.result a b) c.judge.ensures.ledger
-          ∙ ap (λ v. enters (at self.ledger) c.in_ok-sheet.sheet.left c.in_ok-sheet.sheet.right v a b) c.settles.ensures;
+          ∙ ap (λ x. enters (at x) c.in_ok-sheet.sheet.left c.in_ok-sheet.sheet.right (Some c.in_ok-sheet.sheet.verdict) a b) c.judge.ensures.ledger;
       grammar = c.judge.ensures.grammar;
       covers = c.judge.ensures.covers;
     }
