@@ -1,23 +1,23 @@
--- Looking for an element that passes a test, from the front of a list on.
-use Rattle.std.proofs.Common.{◌≡◌, ℕ, ◌+◌, ◌<◌, ◌≤◌, Bool, true, false, ◌||◌, List, length, get_or, drop, sym, ap, ◌∙◌}
-use Rattle.std.proofs.lemmas.List.{at_drop_more, at_drop_all}
-use Rattle.theory.specs.Count.{any}
+-- The library's words for a test of some number, and this repository's.
+use Rattle.std.proofs.Common.{◌≡◌, ℕ, zero, suc, ◌+◌, Bool, true, false, ◌||◌, List, [], ◌∷◌, ◌++◌, refl, ap, ◌∙◌, ap₂, arith}
+use Rattle.std.specs.List.{list_any, range_with_len}
+use Rattle.std.proofs.lemmas.List.Folds.{list_any-append}
+use Rattle.theory.specs.Count.{some}
 
--- what is left of the list begins with the element at i
-first_left : {X : Type 0} (p : X → Bool) (xs : List X) (i : ℕ) (d : X) → i < length xs →
-    any p (drop i xs) ≡ (p (get_or xs i d) || any p (drop (i + 1) xs))
-first_left p xs i d lt = at_drop_more (any p) xs i d lt
+range_more : (a n : ℕ) → range_with_len a (suc n) ≡ range_with_len a n ++ (a + n) ∷ []
+range_more a zero = let same : a ≡ a + 0 = omega arith in ap (λ k. k ∷ []) same
+range_more a (suc n) =
+    let same : a + 1 + n ≡ a + suc n = omega arith in
+    ap (λ (l : List ℕ). a ∷ l) (range_more (a + 1) n ∙ ap (λ k. range_with_len (a + 1) n ++ k ∷ []) same)
 
-pub any_here : {X : Type 0} (p : X → Bool) (xs : List X) (i : ℕ) (d : X) {b : Bool} → i < length xs →
-    any p (drop i xs) ≡ b → p (get_or xs i d) ≡ true → true ≡ b
-any_here p xs i d lt left is =
-    sym (ap (λ x. x || any p (drop (i + 1) xs)) is) ∙ sym (first_left p xs i d lt) ∙ left
+or_false : (x : Bool) → (x || false) ≡ x
+or_false true = refl
+or_false false = refl
 
-pub any_next : {X : Type 0} (p : X → Bool) (xs : List X) (i : ℕ) (d : X) {b : Bool} → i < length xs →
-    any p (drop i xs) ≡ b → p (get_or xs i d) ≡ false → any p (drop (i + 1) xs) ≡ b
-any_next p xs i d lt left is =
-    sym (ap (λ x. x || any p (drop (i + 1) xs)) is) ∙ sym (first_left p xs i d lt) ∙ left
-
-pub any_past : {X : Type 0} (p : X → Bool) (xs : List X) (i : ℕ) {b : Bool} → length xs ≤ i →
-    any p (drop i xs) ≡ b → false ≡ b
-any_past p xs i past left = sym (at_drop_all (any p) xs i past) ∙ left
+-- some number below n passes
+pub any_below : (p : ℕ → Bool) (n : ℕ) → list_any p (range_with_len 0 n) ≡ some n p
+any_below p zero = refl
+any_below p (suc n) =
+    let here : 0 + n ≡ n = omega arith in
+    ap (list_any p) (range_more 0 n) ∙ list_any-append p (range_with_len 0 n) ((0 + n) ∷ [])
+    ∙ ap₂ (λ x y. x || y) (any_below p n) (or_false (p (0 + n)) ∙ ap p here)

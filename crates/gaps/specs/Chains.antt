@@ -1,5 +1,5 @@
 -- Chains of the rows of a sheet by a hash, so that a row is found among few.
-use Rattle.std.specs.Prelude.{◌≡◌, ℕ, zero, suc, ◌+◌, ◌*◌, ◌/◌, ◌%◌, ◌<◌, ◌≤◌, Bool, cond, List, length, nat_eq, slice_index, slice_index_or}
+use Rattle.std.specs.Prelude.{◌≡◌, ℕ, zero, suc, ◌+◌, ◌*◌, ◌/◌, ◌%◌, ◌<◌, ◌≤◌, Bool, cond, List, length, Some, None, Option, nat_eq, slice_index_or}
 use Rattle.model.specs.declared.rows.Row.{Row}
 use Rattle.model.specs.Blank.{blank_row}
 
@@ -16,22 +16,22 @@ slot_of r = ((((r.right.bits % word + (r.right.bits / word * 31) % word) % word 
 abbrev pub slot_at : List Row → ℕ → ℕ
 slot_at rows i = slot_of (slice_index_or rows i blank_row)
 
--- the last number below n that passes p, plus one; 0 where none does
-abbrev pub last : ℕ → (ℕ → Bool) → ℕ
-last zero p = 0
-last (suc n) p = cond (p n) (suc n) (last n p)
+-- the last number below n that passes p
+abbrev pub last : ℕ → (ℕ → Bool) → Option ℕ
+last zero p = None
+last (suc n) p = cond (p n) (Some n) (last n p)
 
 -- each chain's head is the last of the first n rows that is in the chain
-abbrev pub Heads : List Row → ℕ → List ℕ → Type 0
-Heads rows n heads = (h : ℕ) → h < 256 → slice_index heads h ≡ last n (λ i. nat_eq (slot_at rows i) h)
+abbrev pub Heads : List Row → ℕ → List (Option ℕ) → Type 0
+Heads rows n heads = (h : ℕ) → h < 256 → slice_index_or heads h None ≡ last n (λ i. nat_eq (slot_at rows i) h)
 
 -- each row's link is the row before it in its chain
-abbrev pub Links : List Row → ℕ → List ℕ → Type 0
-Links rows n links = (j : ℕ) → j < n → slice_index links j ≡ last j (λ i. nat_eq (slot_at rows i) (slot_at rows j))
+abbrev pub Links : List Row → ℕ → List (Option ℕ) → Type 0
+Links rows n links = (j : ℕ) → j < n → slice_index_or links j None ≡ last j (λ i. nat_eq (slot_at rows i) (slot_at rows j))
 
 -- all rows are in their chains, unless there are more than 512
-abbrev pub Headed : List Row → List ℕ → Type 0
+abbrev pub Headed : List Row → List (Option ℕ) → Type 0
 Headed rows heads = length rows ≤ 512 → Heads rows (length rows) heads
 
-abbrev pub Linked : List Row → List ℕ → Type 0
+abbrev pub Linked : List Row → List (Option ℕ) → Type 0
 Linked rows links = length rows ≤ 512 → Links rows (length rows) links

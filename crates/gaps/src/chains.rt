@@ -2,20 +2,35 @@
 ghost use Rattle.std.specs.Prelude.{◌≡◌, ◌<◌};
 ghost use Rattle.gaps.specs.Chains.{slot_of};
 
-use crate::grounds::Grounds;
+use crate::grounds::{CHAINS, Grounds, ROOM};
 use ledger::table::Ledger;
 use model::rows::Row;
+
+/// One more than the greatest number of 64 bits.
+const WORD: u128 = 1 << 64;
+
+/// What the upper word of a set is multiplied by.
+const UPPER: usize = 31;
+
+/// What the left state is multiplied by.
+const LEFT: usize = 1099511628211;
+
+/// What spreads the mixed words over a word's upper bits: 2 to the 64 by the golden ratio.
+const SPREAD: usize = 11400714819323198485;
+
+/// The least number of a word's upper eight bits.
+const UPPER_BITS: usize = 1 << 56;
 
 /// The chain that a row is in.
 pub(crate) fn slot(row: &Row) -> usize
     ensures value { result ≡ slot_of row.now }
     ensures below { result < 256 }
 {
-    let low = (row.right.bits % 18446744073709551616) as usize;
-    let high = (row.right.bits / 18446744073709551616) as usize;
-    let set = low.wrapping_add(high.wrapping_mul(31));
-    let mixed = set.wrapping_add(row.left.wrapping_mul(1099511628211));
-    mixed.wrapping_mul(11400714819323198485) / 72057594037927936 % 256
+    let low = (row.right.bits % WORD) as usize;
+    let high = (row.right.bits / WORD) as usize;
+    let set = low.wrapping_add(high.wrapping_mul(UPPER));
+    let mixed = set.wrapping_add(row.left.wrapping_mul(LEFT));
+    mixed.wrapping_mul(SPREAD) / UPPER_BITS % CHAINS
 }
 
 impl Grounds<'_> {
@@ -25,13 +40,13 @@ impl Grounds<'_> {
         ensures ledger { result.ledger.now ≡ ledger.now }
         ensures rules { result.rules ≡ rules }
     {
-        let mut heads = [0; 256];
-        let mut links = [0; 512];
-        if rows.len() <= 512 {
-            for i in 0..rows.len() {
-                let slot = slot(&rows[i]);
+        let mut heads = [None; CHAINS];
+        let mut links = [None; ROOM];
+        if rows.len() <= ROOM {
+            for (i, row) in rows.iter().enumerate() {
+                let slot = slot(row);
                 links[i] = heads[slot];
-                heads[slot] = i + 1;
+                heads[slot] = Some(i);
             }
         }
         Grounds {
