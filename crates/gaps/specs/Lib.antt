@@ -1,3 +1,4 @@
 pub mod Shows
+pub mod Grounds
 pub mod Gaps
 pub mod Chains

@@ -1,9 +1,9 @@
 //! The search for a gap of a row: an either-or neither of whose sides is shown.
 ghost use Rattle.std.specs.Prelude.{◌≡◌, ◌^◌, ◌≤◌, false, length, take, is_some, if◌then◌else◌};
 ghost use Rattle.sides.specs.View.{view, covers_of};
-ghost use Rattle.ledger.specs.Settled.{at};
 ghost use Rattle.theory.specs.Inequality.{either_or, wide};
-ghost use Rattle.gaps.specs.Shows.{shown as is_shown, unshown, gap};
+ghost use Rattle.gaps.specs.Shows.{unshown, gap};
+ghost use Rattle.gaps.specs.Grounds.{shown_on};
 ghost use Rattle.gaps.specs.Gaps.{known, first_gap};
 
 use crate::grounds::Grounds;
@@ -46,7 +46,7 @@ fn subsets(covers: &Covers, t: usize, label: usize, number: usize) -> usize
 
 /// Whether neither side of an either-or is shown.
 fn is_unshown(grounds: &Grounds<'_>, derivative: Derivative, pairs: &[Pair], subset: usize) -> bool
-    ensures { result ≡ unshown (is_shown (at grounds.now.ledger.now) grounds.now.rules grounds.now.rows.now) (either_or derivative pairs.now subset) }
+    ensures { result ≡ unshown (shown_on grounds.now) (either_or derivative pairs.now subset) }
 {
     !grounds.shows(&content_side(derivative, pairs, subset))
         && !grounds.shows(&rest_side(derivative, pairs, subset))
@@ -60,8 +60,8 @@ pub fn find_gap(
     grounds: &Grounds<'_>,
     row: &Row,
 ) -> Option<Place>
-    ensures first { result ≡ first_gap (view machine.now covers.now) (is_shown (at grounds.now.ledger.now) grounds.now.rules grounds.now.rows.now) row.now }
-    ensures exact { wide (view machine.now covers.now) row.now ≡ false → is_some result ≡ gap (view machine.now covers.now) (is_shown (at grounds.now.ledger.now) grounds.now.rules grounds.now.rows.now) row.now }
+    ensures first { result ≡ first_gap (view machine.now covers.now) (shown_on grounds.now) row.now }
+    ensures exact { wide (view machine.now covers.now) row.now ≡ false → is_some result ≡ gap (view machine.now covers.now) (shown_on grounds.now) row.now }
 {
     let mut records = [(0, 0); 8];
     let derivatives = machine.derivatives(row.left);
@@ -72,9 +72,9 @@ pub fn find_gap(
             }
             let number = put_pairs(machine, covers, t, &row.right, &mut records);
             let pairs = &records[0..number];
-            for i in 0..derivatives.len() {
-                for k in 0..subsets(covers, t, derivatives[i].0, number) {
-                    if is_unshown(grounds, derivatives[i], pairs, k) {
+            for (i, derivative) in derivatives.iter().enumerate() {
+                for k in 0..subsets(covers, t, derivative.0, number) {
+                    if is_unshown(grounds, *derivative, pairs, k) {
                         break 'gap Some(Place {
                             name: t,
                             derivative: i,

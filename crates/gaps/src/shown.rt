@@ -3,7 +3,8 @@ ghost use Rattle.std.specs.Prelude.{◌≡◌};
 ghost use Rattle.theory.specs.Count.{any};
 ghost use Rattle.theory.specs.Inequality.{same_row};
 ghost use Rattle.ledger.specs.Settled.{at};
-ghost use Rattle.gaps.specs.Shows.{included?, leans, shown as is_shown};
+ghost use Rattle.gaps.specs.Shows.{included?, leans};
+ghost use Rattle.gaps.specs.Grounds.{shown_on};
 
 use crate::chains::slot;
 use crate::grounds::{Grounds, ROOM};
@@ -50,7 +51,7 @@ impl Grounds<'_> {
     /// Whether a side is shown.
     #[tactic(auto, unfolding(crate::specs::Shows::shown))]
     pub fn shows(&self, side: &Row) -> bool
-        ensures { result ≡ is_shown (at self.now.ledger.now) self.now.rules self.now.rows.now side.now }
+        ensures { result ≡ shown_on self.now side.now }
     {
         self.has_row(side) || leans_on(self.ledger, self.rules, side)
     }

@@ -1,16 +1,15 @@
 use Rattle.std.proofs.Common.{◌≡◌, length, None}
-use Rattle.ledger.specs.Settled.{at}
 use Rattle.sides.specs.View.{view}
-use Rattle.gaps.specs.Shows.{shown}
+use Rattle.gaps.specs.Grounds.{shown_on}
 use Rattle.gaps.specs.Gaps.{first, subset_gap, derivative_gap, name_gap}
 use Rattle.gaps.proofs.gap.find_gap.Given as goal
 
 abbrev pub invariant-loop-k : goal.invariant-loop-k
-invariant-loop-k l = first l.k (subset_gap (view l.machine l.covers) (shown (at l.grounds.ledger.now) l.grounds.rules l.grounds.rows.now) l.row l.t l.i) ≡ None
+invariant-loop-k l = first l.k (subset_gap (view l.machine l.covers) (shown_on l.grounds) l.row l.t l.i) ≡ None
 
 abbrev pub invariant-loop-i : goal.invariant-loop-i
-invariant-loop-i l = first l.i (derivative_gap (view l.machine l.covers) (shown (at l.grounds.ledger.now) l.grounds.rules l.grounds.rows.now) l.row l.t) ≡ None
+invariant-loop-i l = first l.i (derivative_gap (view l.machine l.covers) (shown_on l.grounds) l.row l.t) ≡ None
 
 abbrev pub invariant-loop-t : goal.invariant-loop-t
 invariant-loop-t l = (length l.records ≡ 8)
-    × (first l.t (name_gap (view l.machine l.covers) (shown (at l.grounds.ledger.now) l.grounds.rules l.grounds.rows.now) l.row) ≡ None)
+    × (first l.t (name_gap (view l.machine l.covers) (shown_on l.grounds) l.row) ≡ None)

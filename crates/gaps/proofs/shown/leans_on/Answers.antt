@@ -1,5 +1,4 @@
 use Rattle.std.proofs.Common.{ℕ, Bool, ◌&&◌, refl, sym, ap, ◌∙◌, arith, rules, tests}
-use Rattle.std.specs.List.{list_any}
 use Rattle.std.proofs.lemmas.Bool.{and_left, lt-ltb, le-ltb}
 use Rattle.std.proofs.lemmas.Iterator.{YieldsList-from_range}
 use Rattle.std.proofs.lemmas.Iterator.Search.{any_from_yields_List}
