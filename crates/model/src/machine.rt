@@ -30,21 +30,16 @@ impl Machine {
     pub fn is_nullable(&self, q: usize) -> bool
         ensures { result ≡ nullable_at (states_of self.now) q }
     {
-        if q < self.states.len() {
-            self.states[q].nullable
-        } else {
-            false
-        }
+        self.states.get(q).is_some_and(|state| state.nullable)
     }
 
     // The derivatives of the state q in order; none where there is no such state.
     pub fn derivatives(&self, q: usize) -> &[Derivative]
         ensures { result.now ≡ derivatives_at (states_of self.now) q }
     {
-        if q < self.states.len() {
-            self.states[q].derivatives.as_slice()
-        } else {
-            &[]
+        match self.states.get(q) {
+            Some(state) => state.derivatives.as_slice(),
+            None => &[],
         }
     }
 }

@@ -47,13 +47,6 @@ impl Relation for Heads {
     }
 }
 
-// The head of the name t, if t is a name and has one.
-fn head_of(names: &[Name], t: usize) -> Option<usize>
-    ensures { result ≡ (slice_index_or names.now t no_name).head }
-{
-    if t < names.len() { names[t].head } else { None }
-}
-
 // Whether h is met on the way from t up by at most `steps` heads.
 fn climbs(names: &[Name], steps: usize, h: usize, t: usize) -> bool
     ensures { result ≡ above steps names.now h t }
@@ -64,7 +57,7 @@ fn climbs(names: &[Name], steps: usize, h: usize, t: usize) -> bool
     if steps == 0 {
         return false;
     }
-    match head_of(names, t) {
+    match names.get(t).and_then(|name| name.head) {
         Some(u) => climbs(names, steps - 1, h, u),
         None => false,
     }

@@ -6,7 +6,7 @@ ghost use Rattle.model.specs.Blank.{blank_row, blank_item};
 use crate::sets::StateSet;
 
 // An inequality: a left state against a set of right states.
-#[derive(Clone, Copy, PartialEq, Eq)]
+#[derive(Clone, Copy, Default, PartialEq, Eq)]
 pub struct Row {
     pub left: usize,
     pub right: StateSet,
@@ -14,7 +14,7 @@ pub struct Row {
 
 // An item of a hedge: its name, and the numbers of the item that begins the hedge inside it and of
 // the one that follows it. Items are numbered from 1; 0 is the empty hedge.
-#[derive(Clone, Copy, PartialEq, Eq)]
+#[derive(Clone, Copy, Default, PartialEq, Eq)]
 pub struct Item {
     pub name: usize,
     pub child: usize,
@@ -26,10 +26,7 @@ impl Row {
     pub fn blank() -> Row
         ensures { result ≡ blank_row }
     {
-        Row {
-            left: 0,
-            right: StateSet { bits: 0 },
-        }
+        Row::default()
     }
 }
 
@@ -38,10 +35,6 @@ impl Item {
     pub fn blank() -> Item
         ensures { result ≡ blank_item }
     {
-        Item {
-            name: 0,
-            child: 0,
-            next: 0,
-        }
+        Item::default()
     }
 }

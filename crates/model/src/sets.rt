@@ -3,7 +3,7 @@ ghost use Rattle.model.specs.Sets.{has, insert};
 ghost use Rattle.std.specs.Prelude.{◌≡◌};
 
 // A set of states below 128, one bit for each state.
-#[derive(Clone, Copy, PartialEq, Eq)]
+#[derive(Clone, Copy, Default, PartialEq, Eq)]
 pub struct StateSet {
     pub bits: u128,
 }
@@ -13,7 +13,7 @@ impl StateSet {
     pub fn empty() -> StateSet
         ensures { result.bits ≡ 0 }
     {
-        StateSet { bits: 0 }
+        StateSet::default()
     }
 
     // Whether the state q is in the set.
