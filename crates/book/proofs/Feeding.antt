@@ -122,6 +122,9 @@ module _ {A : Type 0} (same : A → A → Bool) where
   pub fills_says : (b a : Book A) (xs : List A) (x y : Bool) → x ≡ y → Fills same b a xs x → Fills same b a xs y
   fills_says b a xs x y e = subst (λ v. Fills same b a xs v) e
 
+  pub fills_to : (b a a' : Book A) (xs : List A) (answer : Bool) → a' ≡ a → Fills same b a xs answer → Fills same b a' xs answer
+  fills_to b a a' xs answer e = subst (λ (k : Book A). Fills same b k xs answer) (sym e)
+
   -- under a condition
   pub fills_when : (b a : Book A) (test : Bool) (xs : List A) (answer : Bool) → test ≡ true →
       Fills same b a xs answer → Fills same b a (cond test xs []) answer

@@ -2,4 +2,6 @@ pub mod Table
 pub mod Some
 pub mod Subset
 pub mod Crowded
+pub mod Failing
+pub mod Gathering
 pub mod Sided

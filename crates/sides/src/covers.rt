@@ -1,5 +1,5 @@
 // Which name covers which, asked of a relation once and kept in a table.
-ghost use Rattle.std.specs.Prelude.{◌≡◌, [], map, length, IfOk, slice_index_or};
+ghost use Rattle.std.specs.Prelude.{◌≡◌, map, length, IfOk};
 ghost use Rattle.std.specs.List.{range_with_len};
 ghost use Rattle.sides.specs.View.{table_of, names_of, covers_of};
 
@@ -52,22 +52,13 @@ impl Covers {
         self.table.len()
     }
 
-    // Whether h covers each name in order; none where h is no name.
-    fn row(&self, h: usize) -> &[bool]
-        ensures { result.now ≡ slice_index_or (table_of self.now) h [] }
-    {
-        if h < self.table.len() {
-            self.table[h].as_slice()
-        } else {
-            &[]
-        }
-    }
-
     // Whether h covers t; a number that is no name covers none and is not covered.
     pub fn get(&self, h: usize, t: usize) -> bool
         ensures { result ≡ covers_of self.now h t }
     {
-        let row = self.row(h);
-        if t < row.len() { row[t] } else { false }
+        self.table
+            .get(h)
+            .and_then(|row| row.get(t))
+            .is_some_and(|covered| *covered)
     }
 }

@@ -1,28 +1,36 @@
 // Taking an inequality: the sides of all its either-ors are entered in a book of rows, names rising,
 // derivatives of the left in order, subsets rising, the content side first.
-ghost use Rattle.std.specs.Prelude.{◌≡◌, ◌^◌, ◌<◌, ◌≤◌, true, false, length};
+ghost use Rattle.std.specs.Prelude.{◌≡◌, ◌^◌, ◌<◌, ◌≤◌, false, length};
+ghost use Rattle.std.specs.Result.{is_ok};
 ghost use Rattle.theory.specs.Count.{each};
 ghost use Rattle.theory.specs.Inequality.{same_row, wide as wide_row, of_name};
 ghost use Rattle.theory.specs.Meeting.{sides_of, sides};
 ghost use Rattle.book.specs.Feeding.{Fills};
-ghost use Rattle.sides.specs.Steps.{side_step, derivative_sides, derivative_step};
-ghost use Rattle.sides.specs.View.{view, names_of, covers_of};
+ghost use Rattle.sides.specs.Steps.{side_step, derivative_step};
+ghost use Rattle.sides.specs.View.{seen, names_of};
 ghost use Rattle.sides.specs.Took.{Took};
+ghost use Rattle.sides.specs.declared.entering.Stop.TheVariants.{OutOfRows};
 
-use crate::covers::Covers;
-use crate::either::{content_side, rest_side};
-use crate::pairs::{Pair, pairs};
-use crate::wide::{is_wide, labelled};
-use book::Book;
-use model::machine::{Derivative, Machine};
+use crate::either::either_or;
+use crate::pairs::Pair;
+use crate::setting::Setting;
+use book::{Book, Full};
+use model::machine::Derivative;
 use model::rows::Row;
 
-// How taking an inequality ended: all its sides have a row, it is wide, or a side has no row.
-#[derive(Clone, Copy, PartialEq, Eq)]
-pub enum Taken {
-    Entered,
+// Why taking an inequality stops: it is wide, or one of its sides has no row.
+#[derive(Clone, Copy, PartialEq, Eq, Debug, Drop)]
+pub enum Stop {
     Wide,
-    Full,
+    OutOfRows,
+}
+
+impl From<Full> for Stop {
+    ghost from_gives = { λ _ stop. stop ≡ OutOfRows };
+
+    fn from(_full: Full) -> Stop {
+        Stop::OutOfRows
+    }
 }
 
 // Enters both sides of one either-or.
@@ -31,118 +39,84 @@ fn enter_subset(
     pairs: &[Pair],
     subset: usize,
     book: &mut Book<'_, Row>,
-) -> bool
-    ensures fills { Fills same_row book.old book.new (side_step derivative pairs.now subset) result }
-    ensures lent { book.new.records.ghost_name ≡ book.old.records.ghost_name }
+) -> Result<(), Full>
+    ensures { Fills same_row book.old book.new (side_step derivative pairs.now subset) (is_ok result) }
 {
-    if !book.put(content_side(derivative, pairs, subset)) {
-        return false;
-    }
-    book.put(rest_side(derivative, pairs, subset))
+    let sides = either_or(derivative, pairs, subset);
+    book.put(sides.content)?;
+    book.put(sides.rest)
 }
 
 // Enters the sides of the either-ors of a derivative, one for each subset of the pairs.
-fn enter_subsets(derivative: Derivative, pairs: &[Pair], book: &mut Book<'_, Row>) -> bool
-    requires { length pairs.now ≤ 8 }
-    ensures fills { Fills same_row book.old book.new (each (2 ^ length pairs.now) (side_step derivative pairs.now)) result }
-    ensures lent { book.new.records.ghost_name ≡ book.old.records.ghost_name }
-{
-    for subset in 0..(1usize << pairs.len()) {
-        if !enter_subset(derivative, pairs, subset, book) {
-            return false;
-        }
-    }
-    true
-}
-
-// The same if the derivative's label covers t.
-fn enter_covered(
-    covers: &Covers,
-    t: usize,
+fn enter_subsets(
     derivative: Derivative,
     pairs: &[Pair],
     book: &mut Book<'_, Row>,
-) -> bool
+) -> Result<(), Full>
     requires { length pairs.now ≤ 8 }
-    ensures fills { Fills same_row book.old book.new (derivative_sides (covers_of covers.now) t pairs.now derivative) result }
-    ensures lent { book.new.records.ghost_name ≡ book.old.records.ghost_name }
+    ensures { Fills same_row book.old book.new (each (2 ^ length pairs.now) (side_step derivative pairs.now)) (is_ok result) }
 {
-    if covers.get(derivative.0, t) {
-        enter_subsets(derivative, pairs, book)
-    } else {
-        true
+    for subset in 0..1 << pairs.len() {
+        enter_subset(derivative, pairs, subset, book)?;
     }
+    Ok(())
 }
 
-// The same for all derivatives of the state q in order.
-fn enter_derivatives(
-    machine: &Machine,
-    covers: &Covers,
-    t: usize,
-    q: usize,
-    pairs: &[Pair],
-    book: &mut Book<'_, Row>,
-) -> bool
-    requires { length pairs.now ≤ 8 }
-    ensures fills { Fills same_row book.old book.new (derivative_step (view machine.now covers.now) t q pairs.now) result }
-    ensures lent { book.new.records.ghost_name ≡ book.old.records.ghost_name }
-{
-    let derivatives = machine.derivatives(q);
-    for i in 0..derivatives.len() {
-        if !enter_covered(covers, t, derivatives[i], pairs, book) {
-            return false;
+impl Setting<'_> {
+    // Enters the sides of the either-ors of all derivatives of the state q whose label covers t, in
+    // order.
+    fn enter_derivatives(
+        &self,
+        t: usize,
+        q: usize,
+        pairs: &[Pair],
+        book: &mut Book<'_, Row>,
+    ) -> Result<(), Full>
+        requires { length pairs.now ≤ 8 }
+        ensures { Fills same_row book.old book.new (derivative_step (seen self.now) t q pairs.now) (is_ok result) }
+    {
+        for derivative in self.machine.derivatives(q) {
+            if self.covers.get(derivative.0, t) {
+                enter_subsets(*derivative, pairs, book)?;
+            }
+        }
+        Ok(())
+    }
+
+    // Enters the sides of all either-ors of a row, which is not wide, under the name t.
+    fn enter_name(&self, row: &Row, t: usize, book: &mut Book<'_, Row>) -> Result<(), Full>
+        requires { (wide_row (seen self.now) row.now ≡ false) × (t < names_of self.now.covers.now) }
+        ensures { Fills same_row book.old book.new (sides_of (of_name (seen self.now) row.now t)) (is_ok result) }
+    {
+        if !self.is_labelled(row.left, t) {
+            return Ok(());
+        }
+        match self.pairs(t, &row.right) {
+            Some(pairs) => self.enter_derivatives(t, row.left, &pairs, book),
+            None => Ok(()),
         }
     }
-    true
-}
 
-// Enters the sides of all either-ors of a row, which is not wide, under the name t.
-fn enter_name(
-    machine: &Machine,
-    covers: &Covers,
-    row: &Row,
-    t: usize,
-    book: &mut Book<'_, Row>,
-) -> bool
-    requires { (wide_row (view machine.now covers.now) row.now ≡ false) × (t < names_of covers.now) }
-    ensures fills { Fills same_row book.old book.new (sides_of (of_name (view machine.now covers.now) row.now t)) result }
-    ensures lent { book.new.records.ghost_name ≡ book.old.records.ghost_name }
-{
-    if !labelled(machine, covers, row.left, t) {
-        return true;
-    }
-    let mut records = [(0, 0); 8];
-    match pairs(machine, covers, t, &row.right, &mut records) {
-        Some(count) => enter_derivatives(machine, covers, t, row.left, &records[0..count], book),
-        None => true,
-    }
-}
-
-// Enters the sides of all either-ors of a row, which is not wide.
-fn enter_sides(machine: &Machine, covers: &Covers, row: &Row, book: &mut Book<'_, Row>) -> bool
-    requires { wide_row (view machine.now covers.now) row.now ≡ false }
-    ensures fills { Fills same_row book.old book.new (sides (view machine.now covers.now) row.now) result }
-    ensures lent { book.new.records.ghost_name ≡ book.old.records.ghost_name }
-{
-    for t in 0..covers.names() {
-        if !enter_name(machine, covers, row, t, book) {
-            return false;
+    // Enters the sides of all either-ors of a row, which is not wide.
+    fn enter_sides(&self, row: &Row, book: &mut Book<'_, Row>) -> Result<(), Full>
+        requires { wide_row (seen self.now) row.now ≡ false }
+        ensures { Fills same_row book.old book.new (sides (seen self.now) row.now) (is_ok result) }
+    {
+        for t in 0..self.covers.names() {
+            self.enter_name(row, t, book)?;
         }
+        Ok(())
     }
-    true
-}
 
-// Takes an inequality: enters its sides unless it is wide.
-pub fn take_row(machine: &Machine, covers: &Covers, row: &Row, book: &mut Book<'_, Row>) -> Taken
-    ensures took { Took (view machine.now covers.now) row.now book.old book.new result }
-    ensures lent { book.new.records.ghost_name ≡ book.old.records.ghost_name }
-{
-    if is_wide(machine, covers, row) {
-        return Taken::Wide;
-    }
-    if enter_sides(machine, covers, row, book) {
-        Taken::Entered
-    } else {
-        Taken::Full
+    // Takes an inequality: enters its sides unless it is wide.
+    pub fn take_row(&self, row: &Row, book: &mut Book<'_, Row>) -> Result<(), Stop>
+        ensures took { Took (seen self.now) row.now book.old book.new result }
+        ensures lent { book.new.records.ghost_name ≡ book.old.records.ghost_name }
+    {
+        if self.is_wide(row) {
+            return Err(Stop::Wide);
+        }
+        self.enter_sides(row, book)?;
+        Ok(())
     }
 }

@@ -7,4 +7,5 @@ pub mod either;
 pub mod entering;
 pub mod nullable;
 pub mod pairs;
+pub mod setting;
 pub mod wide;

@@ -1,21 +1,17 @@
-use Rattle.std.proofs.Common.{true, false, [], ◌∷◌, ap, ◌∙◌}
+use Rattle.std.proofs.Common.{true, false, [], ◌∷◌, sym, ap}
 use Rattle.model.specs.declared.rows.Row.{Row}
 use Rattle.theory.specs.Inequality.{same_row, either_or}
-use Rattle.book.proofs.Feeding.{fills_as, fills_full, fills_more}
+use Rattle.book.proofs.Feeding.{fills_as, fills_full, fills_more, fills_says}
+use Rattle.sides.proofs.Failing.{not_ok}
 use Rattle.sides.proofs.entering.enter_subset.Goals as goal
 
-pub returns-then-not-put : goal.returns-then-not-put
-returns-then-not-put c = record {
-  fills = fills_full same_row c.args.book.now c.put.new.self _
-      ((either_or c.args.derivative c.args.pairs.now c.args.subset).rest ∷ [])
-      (fills_as same_row c.args.book.now c.put.new.self _ _ false (ap (λ (x : Row). x ∷ []) c.content_side.ensures) c.if-not-put.ensures.fills);
-  lent = c.put.ensures.lent;
-}
+pub returns-in_err-put : goal.returns-in_err-put
+returns-in_err-put c = fills_says same_row c.args.book.now c.put.new.self _ _ _ (sym (not_ok c.from_residual.result c.from_residual.ensures.0))
+    (fills_full same_row c.args.book.now c.put.new.self _
+    ((either_or c.args.derivative c.args.pairs.now c.args.subset).rest ∷ [])
+    (fills_as same_row c.args.book.now c.put.new.self _ _ false (ap (λ (x : Row). x ∷ []) c.either_or-sides.ensures.content) c.in_err-put.ensures))
 
 pub returns : goal.returns
-returns c = record {
-  fills = fills_more same_row c.args.book.now c.put.new.self c.put-2.new.self _ _ c.put-2.result
-      (fills_as same_row c.args.book.now c.put.new.self _ _ true (ap (λ (x : Row). x ∷ []) c.content_side.ensures) c.if-not-put.ensures.fills)
-      (fills_as same_row c.put.new.self c.put-2.new.self _ _ c.put-2.result (ap (λ (x : Row). x ∷ []) c.rest_side.ensures) c.put-2.ensures.fills);
-  lent = c.put-2.ensures.lent ∙ c.put.ensures.lent;
-}
+returns c = fills_more same_row c.args.book.now c.put.new.self c.put-2.new.self _ _ _
+    (fills_as same_row c.args.book.now c.put.new.self _ _ true (ap (λ (x : Row). x ∷ []) c.either_or-sides.ensures.content) c.in_ok-put.ensures)
+    (fills_as same_row c.put.new.self c.put-2.new.self _ _ _ (ap (λ (x : Row). x ∷ []) c.either_or-sides.ensures.rest) c.put-2.ensures)
