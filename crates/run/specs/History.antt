@@ -1,5 +1,6 @@
 -- Calls with their answers, and what stands settled after them.
 use Rattle.std.specs.Prelude.{ℕ, min, List, [], ◌∷◌, reverse, Some, None, vec_items, Option}
+use Rattle.std.specs.Borrow.{Bor}
 use Rattle.model.specs.declared.rows.Row.{Row}
 use Rattle.model.specs.declared.rows.Item.{Item}
 use Rattle.ledger.specs.Settled.{Settled, enters}
@@ -8,8 +9,8 @@ use Rattle.model.specs.declared.verdict.Verdict.TheVariants as verdict
 use Rattle.search.specs.declared.answer.Answer.{Answer}
 use Rattle.search.specs.declared.answer.Answer.TheVariants as answer
 use Rattle.register.specs.Calls.{settles}
-use Rattle.run.specs.declared.call.Call.{Call}
-use Rattle.run.specs.declared.call.Call.TheVariants as code
+use Rattle.script.specs.declared.call.Call.{Call}
+use Rattle.script.specs.declared.call.Call.TheVariants as code
 use Rattle.run.specs.declared.call.Reply.{Reply}
 use Rattle.run.specs.declared.call.Reply.TheVariants.{Answered, Accepted, Tested, Wrote, Nothing, LookedUp, Cleared, Refused, Declined}
 use Rattle.run.specs.declared.call.Entry.{Entry}
@@ -24,7 +25,7 @@ pub data Asked : Type 0 where
   clear : Asked
 
 -- what a call of the program asks
-abbrev pub asked : Call → Asked
+abbrev pub asked : Call (Bor (List ℕ)) → Asked
 asked (code.Question l r m n) = question l r m n
 asked (code.Sheet text m n) = sheet text.now m n
 asked (code.Member k text m n) = member k text.now m n

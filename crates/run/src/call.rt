@@ -1,42 +1,11 @@
-//! Calls with what they are given, and entries with what they answered and left.
+//! What calls answered and left.
 use judge::fault::SheetFault;
-use ledger::table::Settled;
 use model::rows::{Item, Row};
+use model::verdict::Verdict;
 use records::fault::CallFault;
 use records::sheet::Sheet;
 use register::membership::Membership;
 use search::answer::Answer;
-
-/// A call. Rows and items are lent in these numbers; `Write` writes the sheet of the last question
-/// that got a verdict or of the last accepted sheet.
-#[derive(Clone, Copy)]
-pub enum Call<'a> {
-    Question {
-        left: usize,
-        right: usize,
-        rows: usize,
-        items: usize,
-    },
-    Sheet {
-        text: &'a [u8],
-        rows: usize,
-        items: usize,
-    },
-    Member {
-        rule: usize,
-        text: &'a [u8],
-        rows: usize,
-        items: usize,
-    },
-    Write {
-        room: usize,
-    },
-    LookUp {
-        left: usize,
-        right: usize,
-    },
-    Clear,
-}
 
 /// What a call answers.
 #[derive(Clone, Copy)]
@@ -48,7 +17,7 @@ pub enum Reply {
     Wrote(usize),
     /// There was no sheet to write.
     Nothing,
-    LookedUp(Settled),
+    LookedUp(Option<Verdict>),
     Cleared,
     Refused(CallFault),
     Declined(SheetFault),

@@ -1,10 +1,12 @@
 //! Carries out calls one after the other.
-use crate::call::{Call, Entry, Reply};
+use crate::call::{Entry, Reply};
 use load::grammar::Grammar;
 use model::relation::Relation;
 use model::rows::{Item, Row};
-use records::sheet::{Sheet, Verdict};
+use model::verdict::Verdict;
+use records::sheet::Sheet;
 use register::register::Register;
+use script::call::Call;
 use search::answer::Answer;
 use std::alloc::{AllocError, Global};
 
@@ -22,16 +24,6 @@ struct Last {
     entry: usize,
 }
 
-/// The rows that a call is lent.
-fn lent_rows(heap: Global, count: usize) -> Result<Vec<Row>, AllocError> {
-    vec![in heap; Row::blank(); count.min(LENT)]
-}
-
-/// The items that a call is lent.
-fn lent_items(heap: Global, count: usize) -> Result<Vec<Item>, AllocError> {
-    vec![in heap; Item::blank(); count.min(LENT)]
-}
-
 /// An entry of a call that was lent nothing.
 fn plain(heap: Global, reply: Reply) -> Entry {
     Entry {
@@ -42,66 +34,18 @@ fn plain(heap: Global, reply: Reply) -> Entry {
     }
 }
 
-/// A question.
-fn question(
+/// The entry of a call that is lent rows and items in these numbers.
+fn lending<F: FnOnce(&mut [Row], &mut [Item]) -> Reply>(
     heap: Global,
-    register: &mut Register,
-    left: usize,
-    right: usize,
     rows: usize,
     items: usize,
-) -> Result<Entry, AllocError> {
-    let mut rows = lent_rows(heap, rows)?;
-    let mut items = lent_items(heap, items)?;
-    let reply = match register.question(left, right, rows.as_mut_slice(), items.as_mut_slice()) {
-        Ok(answer) => Reply::Answered(answer),
-        Err(fault) => Reply::Refused(fault),
-    };
-    Ok(Entry {
-        reply,
-        rows,
-        items,
-        output: Vec::new(heap),
-    })
-}
-
-/// A sheet.
-fn sheet(
-    heap: Global,
-    register: &mut Register,
-    text: &[u8],
-    rows: usize,
-    items: usize,
-) -> Result<Entry, AllocError> {
-    let mut rows = lent_rows(heap, rows)?;
-    let mut items = lent_items(heap, items)?;
-    let reply = match register.sheet(text, rows.as_mut_slice(), items.as_mut_slice()) {
-        Ok(sheet) => Reply::Accepted(sheet),
-        Err(fault) => Reply::Declined(fault),
-    };
-    Ok(Entry {
-        reply,
-        rows,
-        items,
-        output: Vec::new(heap),
-    })
-}
-
-/// A membership test.
-fn member(
-    heap: Global,
-    register: &mut Register,
-    rule: usize,
-    text: &[u8],
-    rows: usize,
-    items: usize,
-) -> Result<Entry, AllocError> {
-    let mut rows = lent_rows(heap, rows)?;
-    let mut items = lent_items(heap, items)?;
-    let reply = match register.member(rule, text, rows.as_mut_slice(), items.as_mut_slice()) {
-        Ok(membership) => Reply::Tested(membership),
-        Err(fault) => Reply::Refused(fault),
-    };
+    call: F,
+) -> Result<Entry, AllocError>
+    requires { F.IsAlwaysCallable call }
+{
+    let mut rows = vec![in heap; Row::blank(); rows.min(LENT)]?;
+    let mut items = vec![in heap; Item::blank(); items.min(LENT)]?;
+    let reply = call(rows.as_mut_slice(), items.as_mut_slice());
     Ok(Entry {
         reply,
         rows,
@@ -121,20 +65,18 @@ fn write(
     let Some(Last { sheet, entry }) = last else {
         return Ok(plain(heap, Reply::Nothing));
     };
-    if entry >= entries.len() {
+    let Some(from) = entries.get(entry) else {
         return Ok(plain(heap, Reply::Nothing));
-    }
-    let mut output = vec![in heap; 0u8; room.min(ROOM)]?;
-    let from = &entries[entry];
-    let reply = match register.write(
-        sheet,
-        from.rows.as_slice(),
-        from.items.as_slice(),
-        output.as_mut_slice(),
-    ) {
-        Ok(length) => Reply::Wrote(length),
-        Err(fault) => Reply::Refused(fault),
     };
+    let mut output = vec![in heap; 0u8; room.min(ROOM)]?;
+    let reply = register
+        .write(
+            sheet,
+            from.rows.as_slice(),
+            from.items.as_slice(),
+            output.as_mut_slice(),
+        )
+        .map_or_else(Reply::Refused, Reply::Wrote);
     Ok(Entry {
         reply,
         rows: Vec::new(heap),
@@ -143,21 +85,13 @@ fn write(
     })
 }
 
-/// A look-up.
-fn look_up(heap: Global, register: &Register, left: usize, right: usize) -> Entry {
-    match register.look_up(left, right) {
-        Ok(settled) => plain(heap, Reply::LookedUp(settled)),
-        Err(fault) => plain(heap, Reply::Refused(fault)),
-    }
-}
-
 /// Carries out one call.
 fn step(
     heap: Global,
     register: &mut Register,
     entries: &[Entry],
     last: Option<Last>,
-    call: Call,
+    call: Call<&[u8]>,
 ) -> Result<Entry, AllocError> {
     match call {
         Call::Question {
@@ -165,16 +99,33 @@ fn step(
             right,
             rows,
             items,
-        } => question(heap, register, left, right, rows, items),
-        Call::Sheet { text, rows, items } => sheet(heap, register, text, rows, items),
+        } => lending(heap, rows, items, |rows, items| {
+            register
+                .question(left, right, rows, items)
+                .map_or_else(Reply::Refused, Reply::Answered)
+        }),
+        Call::Sheet { text, rows, items } => lending(heap, rows, items, |rows, items| {
+            register
+                .sheet(text, rows, items)
+                .map_or_else(Reply::Declined, Reply::Accepted)
+        }),
         Call::Member {
             rule,
             text,
             rows,
             items,
-        } => member(heap, register, rule, text, rows, items),
+        } => lending(heap, rows, items, |rows, items| {
+            register
+                .member(rule, text, rows, items)
+                .map_or_else(Reply::Refused, Reply::Tested)
+        }),
         Call::Write { room } => write(heap, register, entries, last, room),
-        Call::LookUp { left, right } => Ok(look_up(heap, register, left, right)),
+        Call::LookUp { left, right } => {
+            let reply = register
+                .look_up(left, right)
+                .map_or_else(Reply::Refused, Reply::LookedUp);
+            Ok(plain(heap, reply))
+        }
         Call::Clear => {
             register.clear();
             Ok(plain(heap, Reply::Cleared))
@@ -184,36 +135,26 @@ fn step(
 
 /// The sheet of a question's answer, if it has a verdict.
 fn sheet_of(left: usize, right: usize, answer: Answer) -> Option<Sheet> {
-    match answer {
-        Answer::Included { records, .. } => Some(Sheet {
-            verdict: Verdict::Included,
-            left,
-            right,
-            records,
-        }),
-        Answer::Excluded { records, .. } => Some(Sheet {
-            verdict: Verdict::Excluded,
-            left,
-            right,
-            records,
-        }),
-        Answer::Wide { .. } => None,
-        Answer::OutOfRows { .. } => None,
-    }
-}
-
-/// The sheet of what a call answered, if it is a question with a verdict.
-fn answered(call: Call, answer: Answer) -> Option<Sheet> {
-    match call {
-        Call::Question { left, right, .. } => sheet_of(left, right, answer),
-        _ => None,
-    }
+    let (verdict, records) = match answer {
+        Answer::Included { records, .. } => (Verdict::Included, records),
+        Answer::Excluded { records, .. } => (Verdict::Excluded, records),
+        Answer::Wide { .. } | Answer::OutOfRows { .. } => return None,
+    };
+    Some(Sheet {
+        verdict,
+        left,
+        right,
+        records,
+    })
 }
 
 /// The sheet that a call gave, if it gave one.
-fn given(call: Call, reply: Reply) -> Option<Sheet> {
+fn given(call: Call<&[u8]>, reply: Reply) -> Option<Sheet> {
     match reply {
-        Reply::Answered(answer) => answered(call, answer),
+        Reply::Answered(answer) => match call {
+            Call::Question { left, right, .. } => sheet_of(left, right, answer),
+            _ => None,
+        },
         Reply::Accepted(sheet) => Some(sheet),
         _ => None,
     }
@@ -224,7 +165,7 @@ pub fn carry_out<'g, 't, R: Relation>(
     heap: Global,
     grammar: &'g Grammar<'t>,
     relation: &R,
-    calls: &[Call],
+    calls: &[Call<&[u8]>],
 ) -> Result<Vec<Entry>, AllocError> {
     let mut register = Register::new(heap, grammar, relation)?;
     let mut entries = Vec::new(heap);
