@@ -22,11 +22,9 @@ fn covered_by<R: Relation>(
 ) -> Result<Vec<bool>, AllocError>
     ensures { IfOk result (λ v. v.items ≡ map (R.Relation.covered relation.now names.now h) (range_with_len 0 (length names.now))) }
 {
-    let mut row = Vec::new(heap);
-    for t in 0..names.len() {
-        row.push(relation.covers(names, h, t))?;
-    }
-    Ok(row)
+    (0..names.len())
+        .map(|t| relation.covers(names, h, t))
+        .collect(heap)
 }
 
 impl Covers {
