@@ -4,3 +4,4 @@ pub mod Chains
 pub mod Places
 pub mod Lines
 pub mod Reading
+pub mod Texts

@@ -163,6 +163,12 @@ items_in (Err e) = []
 abbrev pub padded : {X : Type 0} → X → ℕ → List X → List X
 padded blank n xs = xs ++ replicate (n - length xs) blank
 
+-- what a call answers of a reading, and what it leaves in m rows and n items
+pub record ReadInto {X : Type 0} (f : Progress → X) (read : Result Found CallFault) (m n : ℕ) (r : Result X CallFault) (rows : List Row) (items : List Item) : Type 0 where
+  pub answered : r ≡ answer f read
+  pub rows_left : rows ≡ padded blank_row m (rows_in read)
+  pub items_left : items ≡ padded blank_item n (items_in read)
+
 -- the first n rows are inequalities over the states, and all others are blank
 pub record RowsSound (states n : ℕ) (rows : List Row) (items : List Item) : Type 0 where
   pub within : n ≤ length rows

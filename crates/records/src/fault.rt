@@ -1,5 +1,5 @@
 //! The faults of a call. A table's fault stands in it whole.
-ghost use Rattle.std.specs.Prelude.{◌≡◌};
+ghost use Rattle.std.specs.Prelude.{◌≡◌, cond, Ok, Err};
 ghost use Rattle.records.specs.Faults.{call_told};
 ghost use Rattle.records.specs.declared.fault.CallFault.TheVariants.{Table as in_table};
 ghost use Rattle.text.specs.declared.fault.TableFault.TheVariants.{Line as in_line};
@@ -18,9 +18,7 @@ pub enum CallFault {
     Rule { line: usize },
     /// Rows or items: at line 0 none, too many or unequal counts were given; else the first record
     /// without a place stands at that line.
-    #[error(
-        "the rows and items are none, over 512 or not as many of both, or too few for the text"
-    )]
+    #[error("the rows and items are none, over 512 or not as many of both, or too few for the text")]
     Room { line: usize },
     /// The output is shorter than the sheet.
     #[error("the output is shorter than the sheet")]
@@ -59,4 +57,11 @@ impl From<TableFault> for CallFault {
     fn from(table: TableFault) -> CallFault {
         CallFault::Table(table)
     }
+}
+
+/// Refuses with the fault, unless the test holds.
+pub fn ensure<E: Copy>(holds: bool, fault: E) -> Result<(), E>
+    ensures { result ≡ cond holds (Ok tt) (Err fault) }
+{
+    if holds { Ok(()) } else { Err(fault) }
 }

@@ -2,9 +2,11 @@
 ghost use Rattle.std.specs.Prelude.{◌≡◌};
 ghost use Rattle.text.specs.Fields.{view, line_of};
 ghost use Rattle.text.specs.Cursors.{fields_left};
+ghost use Rattle.text.specs.declared.fault.TableFault.TheVariants.{Place as at_place};
+ghost use Rattle.records.specs.declared.fault.CallFault.TheVariants.{Table as in_table};
 ghost use Rattle.records.specs.Lines.{worded, verdict_in, sheet_line, hedge_line, pair_line, all_numbers, right_states, roomy, row_line, item_line, end_line, at_stage, judged};
 
-use crate::fault::CallFault;
+use crate::fault::{CallFault, ensure};
 use crate::place::item_fits;
 use crate::sheet::{Limits, Progress, Stage, Step, Verdict};
 use model::names::Name;
@@ -14,15 +16,19 @@ use text::fault::{LineFault, TableFault};
 use text::field::Field;
 use text::line::{Fields, Line};
 
+/// What the lines of a text are judged against: how many rules, states and places there are, and
+/// the names of a grammar.
+#[derive(Clone, Copy)]
+pub(crate) struct Judge<'a> {
+    pub(crate) limits: Limits,
+    pub(crate) names: &'a [Name],
+}
+
 /// Refuses a line where another word stands.
 fn expect(field: Field, word: &[u8]) -> Result<(), LineFault>
     ensures { result ≡ worded word.now (view field.entry) }
 {
-    if field.is(word) {
-        Ok(())
-    } else {
-        Err(LineFault::Form { line: field.line() })
-    }
+    ensure(field.is(word), LineFault::Form { line: field.line() })
 }
 
 /// The verdict that a word names.
@@ -38,6 +44,13 @@ fn verdict(word: Field) -> Result<Verdict, LineFault>
     }
 }
 
+/// The fault of a number that is not allowed at its place, in the line of this key.
+fn misplaced(key: Field) -> CallFault
+    ensures { result ≡ in_table (at_place (line_of (view key.entry))) }
+{
+    TableFault::Place { line: key.line() }.into()
+}
+
 /// The first line of a sheet.
 fn sheet_line(key: Field, mut fields: Fields) -> Result<Step, CallFault>
     ensures { result ≡ sheet_line fields.entry.line (view key.entry) (fields_left fields.entry) }
@@ -45,8 +58,7 @@ fn sheet_line(key: Field, mut fields: Fields) -> Result<Step, CallFault>
     expect(key, b"sheet")?;
     let word = fields.key()?;
     fields.end()?;
-    let verdict = verdict(word)?;
-    Ok(Step::Opened(verdict))
+    Ok(Step::Opened(verdict(word)?))
 }
 
 /// The first line of a hedge.
@@ -58,23 +70,6 @@ fn hedge_line(key: Field, mut fields: Fields) -> Result<Step, CallFault>
     fields.end()?;
     expect(word, b"1")?;
     Ok(Step::Begun)
-}
-
-/// The pair of a sheet.
-fn pair_line(rules: usize, key: Field, mut fields: Fields) -> Result<Step, CallFault>
-    ensures { result ≡ pair_line rules fields.entry.line (view key.entry) (fields_left fields.entry) }
-{
-    expect(key, b"pair")?;
-    let left = fields.number()?;
-    let right = fields.number()?;
-    fields.end()?;
-    let left = left.value()?;
-    let right = right.value()?;
-    if left < rules && right < rules {
-        Ok(Step::Paired(left, right))
-    } else {
-        Err(CallFault::Rule { line: key.line() })
-    }
 }
 
 /// Refuses a line with a malformed number among its fields.
@@ -108,61 +103,6 @@ fn right_states(states: usize, line: usize, mut fields: Fields) -> Result<StateS
     Ok(set)
 }
 
-/// Refuses a record that has no place.
-fn roomy(line: usize, count: usize, room: usize) -> Result<(), CallFault>
-    ensures { result ≡ roomy line count room }
-{
-    if count < room {
-        Ok(())
-    } else {
-        Err(CallFault::Room { line })
-    }
-}
-
-/// A row of an included sheet.
-fn row_line(limits: Limits, count: usize, key: Field, mut fields: Fields) -> Result<Step, CallFault>
-    requires { line_of (view key) ≡ fields.line }
-    ensures { result ≡ row_line limits count fields.entry.line (view key.entry) (fields_left fields.entry) }
-{
-    let line = key.line();
-    roomy(line, count, limits.room)?;
-    all_numbers(fields)?;
-    let left = fields.number()?;
-    let left = left.value()?;
-    let right = right_states(limits.states, line, fields)?;
-    if left < limits.states {
-        Ok(Step::Row(Row { left, right }))
-    } else {
-        Err(TableFault::Place { line }.into())
-    }
-}
-
-/// An item of an excluded sheet or of a hedge.
-fn item_line(
-    names: &[Name],
-    room: usize,
-    count: usize,
-    key: Field,
-    mut fields: Fields,
-) -> Result<Step, CallFault>
-    ensures { result ≡ item_line names.now room count fields.entry.line (view key.entry) (fields_left fields.entry) }
-{
-    let name = fields.number()?;
-    let child = fields.number()?;
-    let next = fields.number()?;
-    fields.end()?;
-    roomy(key.line(), count, room)?;
-    let name = name.value()?;
-    let child = child.value()?;
-    let next = next.value()?;
-    let item = Item { name, child, next };
-    if item_fits(names, count, item) {
-        Ok(Step::Item(item))
-    } else {
-        Err(TableFault::Place { line: key.line() }.into())
-    }
-}
-
 /// The end, with the number of records.
 fn end_line(count: usize, key: Field, mut fields: Fields) -> Result<Step, CallFault>
     ensures { result ≡ end_line count fields.entry.line (view key.entry) (fields_left fields.entry) }
@@ -171,41 +111,85 @@ fn end_line(count: usize, key: Field, mut fields: Fields) -> Result<Step, CallFa
     let number = fields.number()?;
     fields.end()?;
     let number = number.value()?;
-    if number == count {
-        Ok(Step::Ended)
-    } else {
-        Err(TableFault::Place { line: key.line() }.into())
-    }
+    ensure(number == count, misplaced(key))?;
+    Ok(Step::Ended)
 }
 
-/// What the next line says, at the stage that the text has come to.
-pub(crate) fn judge(
-    limits: Limits,
-    names: &[Name],
-    progress: Progress,
-    line: Line,
-) -> Result<Step, CallFault>
-    ensures { result ≡ judged limits names.now progress line.entry.number line.entry.bytes.now }
-{
-    let (key, fields) = line.parts()?;
-    match progress.stage {
-        Stage::Sheet => sheet_line(key, fields),
-        Stage::Hedge => hedge_line(key, fields),
-        Stage::Pair => pair_line(limits.rules, key, fields),
-        Stage::Rows => {
-            if key.is(b"row") {
-                row_line(limits, progress.count, key, fields)
-            } else {
-                end_line(progress.count, key, fields)
-            }
+impl Judge<'_> {
+    /// The pair of a sheet.
+    fn pair_line(self, key: Field, mut fields: Fields) -> Result<Step, CallFault>
+        ensures { result ≡ pair_line self.entry.limits.rules fields.entry.line (view key.entry) (fields_left fields.entry) }
+    {
+        expect(key, b"pair")?;
+        let left = fields.number()?;
+        let right = fields.number()?;
+        fields.end()?;
+        let left = left.value()?;
+        let right = right.value()?;
+        let rules = self.limits.rules;
+        ensure(
+            left < rules && right < rules,
+            CallFault::Rule { line: key.line() },
+        )?;
+        Ok(Step::Paired(left, right))
+    }
+
+    /// Refuses a record that has no place.
+    fn place(self, key: Field, count: usize) -> Result<(), CallFault>
+        ensures { result ≡ roomy (line_of (view key.entry)) count self.entry.limits.room }
+    {
+        ensure(
+            count < self.limits.room,
+            CallFault::Room { line: key.line() },
+        )
+    }
+
+    /// A row of an included sheet.
+    fn row_line(self, count: usize, key: Field, mut fields: Fields) -> Result<Step, CallFault>
+        requires { line_of (view key) ≡ fields.line }
+        ensures { result ≡ row_line self.entry.limits count fields.entry.line (view key.entry) (fields_left fields.entry) }
+    {
+        let states = self.limits.states;
+        self.place(key, count)?;
+        all_numbers(fields)?;
+        let left = fields.number()?;
+        let left = left.value()?;
+        let right = right_states(states, key.line(), fields)?;
+        ensure(left < states, misplaced(key))?;
+        Ok(Step::Row(Row { left, right }))
+    }
+
+    /// An item of an excluded sheet or of a hedge.
+    fn item_line(self, count: usize, key: Field, mut fields: Fields) -> Result<Step, CallFault>
+        ensures { result ≡ item_line self.entry.names.now self.entry.limits.room count fields.entry.line (view key.entry) (fields_left fields.entry) }
+    {
+        let name = fields.number()?;
+        let child = fields.number()?;
+        let next = fields.number()?;
+        fields.end()?;
+        self.place(key, count)?;
+        let name = name.value()?;
+        let child = child.value()?;
+        let next = next.value()?;
+        let item = Item { name, child, next };
+        ensure(item_fits(self.names, count, item), misplaced(key))?;
+        Ok(Step::Item(item))
+    }
+
+    /// What the next line says, at the stage that the text has come to.
+    pub(crate) fn judge(self, progress: Progress, line: Line) -> Result<Step, CallFault>
+        ensures { result ≡ judged self.entry.limits self.entry.names.now progress line.entry.number line.entry.bytes.now }
+    {
+        let (key, fields) = line.parts()?;
+        let count = progress.count;
+        match progress.stage {
+            Stage::Sheet => sheet_line(key, fields),
+            Stage::Hedge => hedge_line(key, fields),
+            Stage::Pair => self.pair_line(key, fields),
+            Stage::Rows if key.is(b"row") => self.row_line(count, key, fields),
+            Stage::Items if key.is(b"item") => self.item_line(count, key, fields),
+            Stage::Rows | Stage::Items => end_line(count, key, fields),
+            Stage::Ended => Err(LineFault::Form { line: key.line() }.into()),
         }
-        Stage::Items => {
-            if key.is(b"item") {
-                item_line(names, limits.room, progress.count, key, fields)
-            } else {
-                end_line(progress.count, key, fields)
-            }
-        }
-        Stage::Ended => Err(LineFault::Form { line: key.line() }.into()),
     }
 }

@@ -9,13 +9,7 @@ use model::rows::Item;
 fn is_element(names: &[Name], t: usize) -> bool
     ensures { result ≡ element names.now t }
 {
-    if t >= names.len() {
-        return false;
-    }
-    match names[t].kind {
-        Kind::Simple => false,
-        Kind::Element => true,
-    }
+    names.get(t).is_some_and(|name| name.kind == Kind::Element)
 }
 
 /// Whether an item is allowed after `earlier` others: its name is a name, its child and its next

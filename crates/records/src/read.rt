@@ -1,13 +1,13 @@
 //! Reading a whole text into rows and items.
-ghost use Rattle.std.specs.Prelude.{◌≡◌, ◌<◌, ◌≤◌, List, [], length, replicate, IfOk, OnOk};
+ghost use Rattle.std.specs.Prelude.{◌≡◌, ◌≤◌, length, replicate, IfOk};
 ghost use Rattle.model.specs.Blank.{blank_row, blank_item};
-ghost use Rattle.text.specs.Pieces.{lines};
 ghost use Rattle.records.specs.Places.{HasPlace};
-ghost use Rattle.records.specs.Reading.{records_of, advanced, row_placed, item_placed, finished, counted, Opening, begun, run, itself, answer, rows_in, items_in, padded, text_read, sheet_of, count_of, sheet_read, hedge_read, SheetSound, ItemsSound};
+ghost use Rattle.records.specs.Reading.{row_placed, item_placed, finished, counted, Opening, itself, sheet_of, count_of, sheet_read, hedge_read, ReadInto, SheetSound, ItemsSound};
+ghost use Rattle.records.specs.Texts.{lines_read, all_read, FilledBy};
 
-use crate::fault::CallFault;
-use crate::line::judge;
-use crate::sheet::{Limits, Progress, Sheet, Stage, Step, Verdict};
+use crate::fault::{CallFault, ensure};
+use crate::line::Judge;
+use crate::sheet::{Bounds, Limits, Progress, Sheet, Stage, Step};
 use model::names::Name;
 use model::rows::{Item, Row};
 use text::fault::LineFault;
@@ -20,38 +20,12 @@ const LIMIT: usize = 262144;
 /// The most rows or items that a call may be given.
 const MOST: usize = 512;
 
-/// The stage of a sheet's records.
-fn records_of(verdict: Verdict) -> Stage
-    ensures { result ≡ records_of verdict }
-{
-    match verdict {
-        Verdict::Included => Stage::Rows,
-        Verdict::Excluded => Stage::Items,
-    }
-}
-
-/// The progress after a line.
-fn advance(progress: Progress, step: Step) -> Progress
-    requires { progress.count ≤ 512 }
-    ensures { result ≡ advanced progress step }
-{
-    let mut next = progress;
-    match step {
-        Step::Opened(verdict) => {
-            next.stage = Stage::Pair;
-            next.verdict = verdict;
-        }
-        Step::Begun => next.stage = Stage::Items,
-        Step::Paired(left, right) => {
-            next.stage = records_of(progress.verdict);
-            next.left = left;
-            next.right = right;
-        }
-        Step::Row(_) => next.count += 1,
-        Step::Item(_) => next.count += 1,
-        Step::Ended => next.stage = Stage::Ended,
-    }
-    next
+/// A text that is to be read: the stage that it begins at, and what its lines are judged against.
+#[derive(Clone, Copy)]
+struct Reading<'a> {
+    text: &'a [u8],
+    stage: Stage,
+    judge: Judge<'a>,
 }
 
 /// Puts a line's record at its place.
@@ -62,12 +36,9 @@ fn place(count: usize, step: Step, rows: &mut [Row], items: &mut [Item])
     ensures items { items.new ≡ item_placed count items.old step }
 {
     match step {
-        Step::Opened(_) => {}
-        Step::Begun => {}
-        Step::Paired(_, _) => {}
         Step::Row(row) => rows[count] = row,
         Step::Item(item) => items[count] = item,
-        Step::Ended => {}
+        _ => {}
     }
 }
 
@@ -76,17 +47,13 @@ fn finish(progress: Progress, line: usize) -> Result<Progress, CallFault>
     ensures { result ≡ finished line progress progress.stage }
 {
     match progress.stage {
-        Stage::Sheet => Err(LineFault::Form { line }.into()),
-        Stage::Hedge => Err(LineFault::Form { line }.into()),
-        Stage::Pair => Err(LineFault::Form { line }.into()),
-        Stage::Rows => Err(LineFault::Form { line }.into()),
-        Stage::Items => Err(LineFault::Form { line }.into()),
         Stage::Ended => Ok(progress),
+        _ => Err(LineFault::Form { line }.into()),
     }
 }
 
 /// Makes all rows and items blank.
-fn blank(rows: &mut [Row], items: &mut [Item])
+pub fn blank(rows: &mut [Row], items: &mut [Item])
     ensures rows { rows.new ≡ replicate (length rows.old) blank_row }
     ensures items { items.new ≡ replicate (length items.old) blank_item }
 {
@@ -98,90 +65,60 @@ fn blank(rows: &mut [Row], items: &mut [Item])
 pub fn counts(rows: usize, items: usize) -> Result<(), CallFault>
     ensures { result ≡ counted rows items }
 {
-    if rows >= 1 && rows <= MOST && rows == items {
-        Ok(())
-    } else {
-        Err(CallFault::Room { line: 0 })
+    ensure(
+        rows >= 1 && rows <= MOST && rows == items,
+        CallFault::Room { line: 0 },
+    )
+}
+
+impl Reading<'_> {
+    /// Reads the lines of the text into blank rows and items.
+    fn lines(self, rows: &mut [Row], items: &mut [Item]) -> Result<Progress, CallFault>
+        requires opening { Opening self.stage }
+        requires short { length self.text.now ≤ 262144 }
+        requires few { self.judge.limits.room ≤ 512 }
+        requires rows { rows.old ≡ replicate self.judge.limits.room blank_row }
+        requires items { items.old ≡ replicate self.judge.limits.room blank_item }
+        ensures { FilledBy (lines_read self.entry) self.entry.judge.limits.room self.entry.judge.limits.room result rows.new items.new }
+    {
+        let mut reader = Reader::new(self.text);
+        let mut progress = Progress::started(self.stage);
+        while let Some(line) = reader.next_line() {
+            let step = self.judge.judge(progress, line)?;
+            place(progress.count, step, rows, items);
+            progress = progress.advanced(step);
+        }
+        finish(progress, reader.next_number())
     }
-}
 
-/// Reads the lines of a text, which begins at a stage, into blank rows and items.
-fn read_lines(
-    limits: Limits,
-    names: &[Name],
-    stage: Stage,
-    text: &[u8],
-    rows: &mut [Row],
-    items: &mut [Item],
-) -> Result<Progress, CallFault>
-    requires opening { Opening stage }
-    requires short { length text.now ≤ 262144 }
-    requires few { limits.room ≤ 512 }
-    requires rows { rows.old ≡ replicate limits.room blank_row }
-    requires items { items.old ≡ replicate limits.room blank_item }
-    ensures result { result ≡ answer itself (run limits names.now (begun stage) 0 (lines text.now)) }
-    ensures rows { OnOk result (rows.new ≡ padded blank_row limits.room (rows_in (run limits names.now (begun stage) 0 (lines text.now)))) }
-    ensures items { OnOk result (items.new ≡ padded blank_item limits.room (items_in (run limits names.now (begun stage) 0 (lines text.now)))) }
-{
-    let mut reader = Reader::new(text);
-    let mut progress = Progress {
-        stage,
-        verdict: Verdict::Excluded,
-        left: 0,
-        right: 0,
-        count: 0,
-    };
-    while let Some(line) = reader.next_line() {
-        let step = judge(limits, names, progress, line)?;
-        place(progress.count, step, rows, items);
-        progress = advance(progress, step);
+    /// Reads the text into blank rows and items, once their counts and the text as a whole are
+    /// tested.
+    fn checked(self, rows: &mut [Row], items: &mut [Item]) -> Result<Progress, CallFault>
+        requires opening { Opening self.stage }
+        requires room { self.judge.limits.room ≡ length rows.old }
+        requires rows { rows.old ≡ replicate (length rows.old) blank_row }
+        requires items { items.old ≡ replicate (length items.old) blank_item }
+        ensures { FilledBy (all_read self.entry (length rows.old) (length items.old)) (length rows.old) (length items.old) result rows.new items.new }
+    {
+        counts(rows.len(), items.len())?;
+        whole(self.text, LIMIT)?;
+        self.lines(rows, items)
     }
-    finish(progress, reader.next_number())
-}
 
-/// Reads a text into blank rows and items, once their counts and the text as a whole are tested.
-fn read_checked(
-    limits: Limits,
-    names: &[Name],
-    stage: Stage,
-    text: &[u8],
-    rows: &mut [Row],
-    items: &mut [Item],
-) -> Result<Progress, CallFault>
-    requires opening { Opening stage }
-    requires room { limits.room ≡ length rows.old }
-    requires rows { rows.old ≡ replicate (length rows.old) blank_row }
-    requires items { items.old ≡ replicate (length items.old) blank_item }
-    ensures result { result ≡ answer itself (text_read limits names.now stage (length rows.old) (length items.old) text.now) }
-    ensures rows { OnOk result (rows.new ≡ padded blank_row (length rows.old) (rows_in (text_read limits names.now stage (length rows.old) (length items.old) text.now))) }
-    ensures items { OnOk result (items.new ≡ padded blank_item (length items.old) (items_in (text_read limits names.now stage (length rows.old) (length items.old) text.now))) }
-{
-    counts(rows.len(), items.len())?;
-    whole(text, LIMIT)?;
-    read_lines(limits, names, stage, text, rows, items)
-}
-
-/// Reads a text into rows and items: what is not filled is blank, and all is blank after a refusal.
-fn read_text(
-    limits: Limits,
-    names: &[Name],
-    stage: Stage,
-    text: &[u8],
-    rows: &mut [Row],
-    items: &mut [Item],
-) -> Result<Progress, CallFault>
-    requires opening { Opening stage }
-    requires room { limits.room ≡ length rows.old }
-    ensures result { result ≡ answer itself (text_read limits names.now stage (length rows.old) (length items.old) text.now) }
-    ensures rows { rows.new ≡ padded blank_row (length rows.old) (rows_in (text_read limits names.now stage (length rows.old) (length items.old) text.now)) }
-    ensures items { items.new ≡ padded blank_item (length items.old) (items_in (text_read limits names.now stage (length rows.old) (length items.old) text.now)) }
-{
-    blank(rows, items);
-    let read = read_checked(limits, names, stage, text, rows, items);
-    if read.is_err() {
+    /// Reads the text into rows and items: what is not filled is blank, and all is blank after a
+    /// refusal.
+    fn read(self, rows: &mut [Row], items: &mut [Item]) -> Result<Progress, CallFault>
+        requires opening { Opening self.stage }
+        requires room { self.judge.limits.room ≡ length rows.old }
+        ensures { ReadInto itself (all_read self.entry (length rows.old) (length items.old)) (length rows.old) (length items.old) result rows.new items.new }
+    {
         blank(rows, items);
+        let read = self.checked(rows, items);
+        if read.is_err() {
+            blank(rows, items);
+        }
+        read
     }
-    read
 }
 
 /// Reads a sheet's text against the numbers of rules and states and the names of a grammar. Its
@@ -189,23 +126,25 @@ fn read_text(
 /// a refusal.
 pub fn read_sheet(
     text: &[u8],
-    rules: usize,
-    states: usize,
-    names: &[Name],
+    bounds: Bounds,
     rows: &mut [Row],
     items: &mut [Item],
 ) -> Result<Sheet, CallFault>
-    ensures result { result ≡ answer sheet_of (sheet_read rules states names.now (length rows.old) (length items.old) text.now) }
-    ensures rows { rows.new ≡ padded blank_row (length rows.old) (rows_in (sheet_read rules states names.now (length rows.old) (length items.old) text.now)) }
-    ensures items { items.new ≡ padded blank_item (length items.old) (items_in (sheet_read rules states names.now (length rows.old) (length items.old) text.now)) }
-    ensures sound { IfOk result (λ sheet. SheetSound rules states names.now sheet rows.new items.new) }
+    ensures read { ReadInto sheet_of (sheet_read bounds.entry.rules bounds.entry.states bounds.entry.names.now (length rows.old) (length items.old) text.now) (length rows.old) (length items.old) result rows.new items.new }
+    ensures sound { IfOk result (λ sheet. SheetSound bounds.entry.rules bounds.entry.states bounds.entry.names.now sheet rows.new items.new) }
 {
     let limits = Limits {
-        rules,
-        states,
+        rules: bounds.rules,
+        states: bounds.states,
         room: rows.len(),
     };
-    let progress = read_text(limits, names, Stage::Sheet, text, rows, items)?;
+    let names = bounds.names;
+    let reading = Reading {
+        text,
+        stage: Stage::Sheet,
+        judge: Judge { limits, names },
+    };
+    let progress = reading.read(rows, items)?;
     Ok(Sheet {
         verdict: progress.verdict,
         left: progress.left,
@@ -223,9 +162,8 @@ pub fn read_hedge(
     rows: &mut [Row],
     items: &mut [Item],
 ) -> Result<usize, CallFault>
-    ensures result { result ≡ answer count_of (hedge_read names.now (length rows.old) (length items.old) text.now) }
+    ensures read { ReadInto count_of (hedge_read names.now (length rows.old) (length items.old) text.now) (length rows.old) (length items.old) result rows.new items.new }
     ensures rows { rows.new ≡ replicate (length rows.old) blank_row }
-    ensures items { items.new ≡ padded blank_item (length items.old) (items_in (hedge_read names.now (length rows.old) (length items.old) text.now)) }
     ensures sound { IfOk result (λ n. ItemsSound names.now n rows.new items.new) }
 {
     let limits = Limits {
@@ -233,6 +171,11 @@ pub fn read_hedge(
         states: 0,
         room: rows.len(),
     };
-    let progress = read_text(limits, names, Stage::Hedge, text, rows, items)?;
+    let reading = Reading {
+        text,
+        stage: Stage::Hedge,
+        judge: Judge { limits, names },
+    };
+    let progress = reading.read(rows, items)?;
     Ok(progress.count)
 }

@@ -1,4 +1,8 @@
 //! What a text of records is made of, line by line.
+ghost use Rattle.std.specs.Prelude.{◌≡◌, ◌≤◌};
+ghost use Rattle.records.specs.Reading.{records_of, started, advanced};
+
+use model::names::Name;
 use model::rows::{Item, Row};
 pub use model::verdict::Verdict;
 
@@ -9,6 +13,15 @@ pub struct Sheet {
     pub left: usize,
     pub right: usize,
     pub records: usize,
+}
+
+/// What the numbers of a sheet are held against: how many rules and states a grammar has, and its
+/// names.
+#[derive(Clone, Copy)]
+pub struct Bounds<'a> {
+    pub rules: usize,
+    pub states: usize,
+    pub names: &'a [Name],
 }
 
 /// What the next line may be.
@@ -36,6 +49,65 @@ pub struct Progress {
     pub left: usize,
     pub right: usize,
     pub count: usize,
+}
+
+impl From<Verdict> for Stage {
+    ghost from_gives = { λ verdict stage. stage ≡ records_of verdict };
+
+    /// The stage of a sheet's records.
+    fn from(verdict: Verdict) -> Stage {
+        match verdict {
+            Verdict::Included => Stage::Rows,
+            Verdict::Excluded => Stage::Items,
+        }
+    }
+}
+
+impl Progress {
+    /// Nothing has been read, and the first line is to be of this stage.
+    pub(crate) fn started(stage: Stage) -> Progress
+        ensures { result ≡ started stage }
+    {
+        Progress {
+            stage,
+            verdict: Verdict::Excluded,
+            left: 0,
+            right: 0,
+            count: 0,
+        }
+    }
+
+    /// The progress after a line.
+    pub(crate) fn advanced(self, step: Step) -> Progress
+        requires { self.count ≤ 512 }
+        ensures { result ≡ advanced self step }
+    {
+        match step {
+            Step::Opened(verdict) => Progress {
+                stage: Stage::Pair,
+                verdict,
+                ..self
+            },
+            Step::Begun => Progress {
+                stage: Stage::Items,
+                ..self
+            },
+            Step::Paired(left, right) => Progress {
+                stage: self.verdict.into(),
+                left,
+                right,
+                ..self
+            },
+            Step::Row(_) | Step::Item(_) => Progress {
+                count: self.count + 1,
+                ..self
+            },
+            Step::Ended => Progress {
+                stage: Stage::Ended,
+                ..self
+            },
+        }
+    }
 }
 
 /// How many rules and states there are, and how many records have a place.

@@ -19,7 +19,7 @@ use judge::rows::{judge_excluded, judge_included};
 use model::rows::{Item, Row};
 use records::fault::CallFault;
 use records::read::read_sheet;
-use records::sheet::{Sheet, Verdict};
+use records::sheet::{Bounds, Sheet, Verdict};
 use writing::write::write_sheet;
 
 impl Register<'_, '_> {
@@ -30,14 +30,12 @@ impl Register<'_, '_> {
         ensures items { items.new ≡ padded blank_item (length items.old) (items_in (sheet_read (length (plain self.now.grammar.now.tables).bodies) (length (states_of self.now.grammar.now.machine)) (plain self.now.grammar.now.tables).names (length rows.old) (length items.old) text.now)) }
     {
         let tables = &self.grammar.tables;
-        read_sheet(
-            text,
-            tables.bodies().len(),
-            self.grammar.machine.count(),
-            tables.names(),
-            rows,
-            items,
-        )
+        let bounds = Bounds {
+            rules: tables.bodies().len(),
+            states: self.grammar.machine.count(),
+            names: tables.names(),
+        };
+        read_sheet(text, bounds, rows, items)
     }
 
     /// Judges what a sheet shows.
@@ -112,14 +110,11 @@ impl Register<'_, '_> {
         ensures out { out.new ≡ filled result (sheet_text sheet rows.now items.now) out.old }
     {
         let tables = &self.grammar.tables;
-        write_sheet(
-            sheet,
-            tables.bodies().len(),
-            self.grammar.machine.count(),
-            tables.names(),
-            rows,
-            items,
-            out,
-        )
+        let bounds = Bounds {
+            rules: tables.bodies().len(),
+            states: self.grammar.machine.count(),
+            names: tables.names(),
+        };
+        write_sheet(sheet, bounds, rows, items, out)
     }
 }

@@ -2,7 +2,7 @@
 use Rattle.std.proofs.Common.{◌≡◌, ℕ, zero, suc, ◌+◌, ◌*◌, ◌/◌, ◌%◌, ◌^◌, ◌<◌, ◌≤◌, Bool, true, false, cond, ◌&&◌, eqb, leb, List, [], ◌∷◌, map, length, take, Ok, Err, codes, decimal, refl, ap, ◌∙◌, arith}
 use Rattle.std.specs.Fmt.{digits, digits_onto, digit_glyph}
 use Rattle.std.specs.List.{AllByRecursion}
-use Rattle.std.proofs.lemmas.List.{length-append, length-take-le}
+use Rattle.std.proofs.lemmas.List.{length-append, length-take}
 use Rattle.std.proofs.lemmas.Bool.{and_parts, leb-true, eqb-true, false≢true, le-leb, lt-leb, cond-true, cond-false}
 use Rattle.model.specs.declared.names.Name.{Name}
 use Rattle.model.specs.declared.rows.Row.{Row}
@@ -13,11 +13,10 @@ use Rattle.model.specs.declared.verdict.Verdict.{Verdict}
 use Rattle.model.specs.declared.verdict.Verdict.TheVariants.{Included, Excluded}
 use Rattle.records.specs.declared.sheet.Sheet.{Sheet}
 use Rattle.records.specs.Chains.{then, misplaced}
-use Rattle.records.specs.Places.{item_fits}
 use Rattle.records.specs.Reading.{counted}
 use Rattle.records.proofs.Chained.{then_ok, cond_ok}
-use Rattle.writing.specs.Texts.{further, members, row_text, item_text, all_texts, records_text, sheet_text, Enough}
-use Rattle.writing.specs.Checks.{row_fits, places_checked, records_checked, pair_checked, sheet_checked, sheet_written}
+use Rattle.writing.specs.Texts.{further, members, row_text, item_text, all_texts, records_text, sheet_text}
+use Rattle.writing.specs.Checks.{places_checked, sheet_checked, sheet_written}
 use Rattle.writing.proofs.Spelled.{members_suc, members_zero, line_length, two_length, one_length, sheet_length, verdict_length}
 
 -- a number has at most 64 digits
@@ -71,16 +70,11 @@ places_ok fits P most given (suc n) k (x ∷ xs) h e =
     go true is h' rec = let r = rec h' in ((given k x (omega arith) is, r.0), omega (arith, r.1))
     go false is h' rec = let z : false ≡ true = cc in elim (false≢true z) [ ]
 
--- the records of a sheet that passes its checks
-pub records_enough : (states : ℕ) (names : List Name) (v : Verdict) (n : ℕ) (rows : List Row) (items : List Item) →
-    records_checked states names v n rows items ≡ Ok tt → Enough v n rows items
-records_enough states names Included n rows items e = (places_ok (λ _ r. row_fits states r) (λ _. Unit {0}) (length rows) (λ k r lt h. tt) n 0 rows (omega arith) e).1
-records_enough states names Excluded n rows items e = (places_ok (item_fits names) (λ _. Unit {0}) (length items) (λ k i lt h. tt) n 0 items (omega arith) e).1
-
+-- the records of a sheet
 pub records_short : (v : Verdict) (n : ℕ) (rows : List Row) (items : List Item) → length rows ≤ 512 → length items ≤ 512 →
-    Enough v n rows items → length (records_text v n rows items) ≤ 9000 * 512
-records_short Included n rows items lr li e = omega (arith, all_short row_text row_short (take n rows), length-take-le n rows e)
-records_short Excluded n rows items lr li e = omega (arith, all_short item_text item_short (take n items), length-take-le n items e)
+    length (records_text v n rows items) ≤ 9000 * 512
+records_short Included n rows items lr li = omega (arith, all_short row_text row_short (take n rows), length-take n rows)
+records_short Excluded n rows items lr li = omega (arith, all_short item_text item_short (take n items), length-take n items)
 
 -- the counts of rows and items that are allowed
 pub counts_ok : (m n : ℕ) → counted m n ≡ Ok tt → (1 ≤ m) × (m ≤ 512) × (m ≡ n)
@@ -91,25 +85,21 @@ counts_ok m n e =
 
 -- a sheet that passes its checks
 pub sheet_short : (rules states : ℕ) (names : List Name) (s : Sheet) (rows : List Row) (items : List Item) → sheet_checked rules states names s rows items ≡ Ok tt →
-    Enough s.verdict s.records rows items × (length (sheet_text s rows items) < 2 ^ 64)
+    length (sheet_text s rows items) < 2 ^ 64
 sheet_short rules states names s rows items e =
     let a = then_ok (counted (length rows) (length items)) _ tt e in
-    let b = then_ok (pair_checked rules s) _ tt a.2 in
     let n = counts_ok (length rows) (length items) a.1 in
-    let k = records_enough states names s.verdict s.records rows items b.2 in (
-      k,
-      omega (
-        arith,
-        sheet_length s rows items,
-        verdict_length s.verdict,
-        line_length (codes "pair") (decimal s.left) (decimal s.right ∷ []),
-        one_length (decimal s.right),
-        decimal_short s.left,
-        decimal_short s.right,
-        line_length (codes "end") (decimal s.records) [],
-        decimal_short s.records,
-        records_short s.verdict s.records rows items n.1 (omega (arith, n.1, n.2)) k,
-      ),
+    omega (
+      arith,
+      sheet_length s rows items,
+      verdict_length s.verdict,
+      line_length (codes "pair") (decimal s.left) (decimal s.right ∷ []),
+      one_length (decimal s.right),
+      decimal_short s.left,
+      decimal_short s.right,
+      line_length (codes "end") (decimal s.records) [],
+      decimal_short s.records,
+      records_short s.verdict s.records rows items n.1 (omega (arith, n.1, n.2)),
     )
 
 -- what writing answers once its checks are passed

@@ -14,12 +14,14 @@ check_room fits xs i n lt le =
     let m : n - i ≡ suc (n - (i + 1)) = omega arith in
     at_drop_all (places_checked fits i (n - i)) xs i le ∙ ap (λ k. places_checked fits i k []) m
 
--- record i of n has a place
-pub check_more : {X : Type 0} (fits : ℕ → X → Bool) (xs : List X) (i n : ℕ) (d : X) → i < n → i < length xs →
-    places_checked fits i (n - i) (drop i xs) ≡ cond (fits i (get_or xs i d)) (places_checked fits (i + 1) (n - (i + 1)) (drop (i + 1) xs)) (misplaced (i + 3))
-check_more fits xs i n d lt le =
+-- record i of n, x, has a place
+pub check_more : {X : Type 0} (fits : ℕ → X → Bool) (xs : List X) (i n : ℕ) (x : X) → i < n → i < length xs → x ≡ get_or xs i x →
+    places_checked fits i (n - i) (drop i xs) ≡ cond (fits i x) (places_checked fits (i + 1) (n - (i + 1)) (drop (i + 1) xs)) (misplaced (i + 3))
+check_more fits xs i n x lt le e =
     let m : n - i ≡ suc (n - (i + 1)) = omega arith in
-    at_drop_more (places_checked fits i (n - i)) xs i d le ∙ ap (λ k. places_checked fits i k (get_or xs i d ∷ drop (i + 1) xs)) m
+    at_drop_more (places_checked fits i (n - i)) xs i x le
+    ∙ ap (λ k. places_checked fits i k (get_or xs i x ∷ drop (i + 1) xs)) m
+    ∙ ap (λ y. cond (fits i y) (places_checked fits (i + 1) (n - (i + 1)) (drop (i + 1) xs)) (misplaced (i + 3))) (sym e)
 
 -- no record is left
 pub check_done : {X : Type 0} (fits : ℕ → X → Bool) (xs : List X) (i n : ℕ) → n ≤ i → places_checked fits i (n - i) xs ≡ Ok tt
@@ -28,13 +30,13 @@ check_done fits xs i n le =
     ap (λ k. places_checked fits i k xs) m
 
 -- it does not fit, or it does
-pub check_refused : {X : Type 0} (fits : ℕ → X → Bool) (xs : List X) (i n : ℕ) (d : X) → i < n → i < length xs → false ≡ fits i (get_or xs i d) →
+pub check_refused : {X : Type 0} (fits : ℕ → X → Bool) (xs : List X) (i n : ℕ) (x : X) → i < n → i < length xs → x ≡ get_or xs i x → false ≡ fits i x →
     places_checked fits i (n - i) (drop i xs) ≡ misplaced (i + 3)
-check_refused fits xs i n d lt le e = check_more fits xs i n d lt le ∙ cond-false (fits i (get_or xs i d)) _ _ (sym e)
+check_refused fits xs i n x lt le e h = check_more fits xs i n x lt le e ∙ cond-false (fits i x) _ _ (sym h)
 
-pub check_passed : {X : Type 0} (fits : ℕ → X → Bool) (xs : List X) (i n : ℕ) (d : X) → i < n → i < length xs → true ≡ fits i (get_or xs i d) →
+pub check_passed : {X : Type 0} (fits : ℕ → X → Bool) (xs : List X) (i n : ℕ) (x : X) → i < n → i < length xs → x ≡ get_or xs i x → true ≡ fits i x →
     places_checked fits i (n - i) (drop i xs) ≡ places_checked fits (i + 1) (n - (i + 1)) (drop (i + 1) xs)
-check_passed fits xs i n d lt le e = check_more fits xs i n d lt le ∙ cond-true (fits i (get_or xs i d)) _ _ (sym e)
+check_passed fits xs i n x lt le e h = check_more fits xs i n x lt le e ∙ cond-true (fits i x) _ _ (sym h)
 
 -- a row over few states, and one over all that a set can hold
 pub fits_few : (states : ℕ) (r : Row) → r.left < states → states < 128 → eqb (r.right.bits / 2 ^ states) 0 ≡ row_fits states r

@@ -1,7 +1,9 @@
 -- Bytes written one after the other.
-use Rattle.std.proofs.Common.{◌≡◌, ℕ, ◌+◌, ◌≤◌, List, [], ◌∷◌, ◌++◌, length, drop, set, sym, refl, ap, ◌∙◌, subst, add-one, arith}
-use Rattle.std.proofs.lemmas.List.{length-append}
+use Rattle.std.proofs.Common.{◌≡◌, ℕ, ◌+◌, ◌-◌, ◌^◌, ◌<◌, ◌≤◌, min, List, [], ◌∷◌, ◌++◌, length, drop, set, sym, refl, ap, ◌∙◌, subst, ⊎_elim, add-one, arith}
+use Rattle.std.proofs.lemmas.Bool.{cases_lt}
+use Rattle.std.proofs.lemmas.List.{length-append, length-set, set_past}
 use Rattle.std.proofs.lemmas.List.Edits.{sets, sets-eq}
+use Rattle.writing.specs.declared.put.Writer.{Writer}
 use Rattle.writing.specs.Wrote.{laid, Wrote}
 
 -- bytes after bytes
@@ -23,32 +25,47 @@ pub laid_front : (bs out : List ℕ) → length bs ≤ length out → laid out 0
 laid_front bs out le =
     laid_is_sets bs out 0 ∙ sets-eq bs out 0 (omega arith) ∙ ap (λ k. bs ++ drop k out) (omega arith)
 
+-- the output keeps its length
+pub laid_length : (bs out : List ℕ) (at : ℕ) → length (laid out at bs) ≡ length out
+laid_length [] out at = refl
+laid_length (b ∷ bs) out at = laid_length bs (set out at b) (at + 1) ∙ length-set out at b
+
+-- past the end nothing is altered
+pub laid_past : (bs out : List ℕ) (at : ℕ) → length out ≤ at → laid out at bs ≡ out
+laid_past [] out at le = refl
+laid_past (b ∷ bs) out at le =
+    let e : set out at b ≡ out = set_past out at b le in
+    ap (λ o. laid o (at + 1) bs) e ∙ laid_past bs out (at + 1) (omega arith)
+
+-- a place that is stopped at m is as good as the true one, where m is no place of the output
+pub laid_stopped : (bs out : List ℕ) (at m : ℕ) → length out ≤ m → laid out (min at m) bs ≡ laid out at bs
+laid_stopped bs out at m le =
+    ⊎_elim (λ (l : at < m). let e : min at m ≡ at = omega arith in ap (λ k. laid out k bs) e)
+    (λ (l : m ≤ at). laid_past bs out (min at m) (omega arith) ∙ sym (laid_past bs out at (omega arith)))
+    (cases_lt at m)
+
 -- one writing after another
-pub wrote_then : {out o1 o2 : List ℕ} {at a1 a2 : ℕ} (xs ys : List ℕ) → Wrote out at xs o1 a1 → Wrote o1 a1 ys o2 a2 → Wrote out at (xs ++ ys) o2 a2
-wrote_then {out} {o1} {o2} {at} {a1} {a2} xs ys h k =
+pub wrote_then : {w v u : Writer} {xs ys : List ℕ} → Wrote w xs v → Wrote v ys u → Wrote w (xs ++ ys) u
+wrote_then {w} {v} {u} {xs} {ys} h k =
+    let n = length-append xs ys in
     record {
-      bytes = k.bytes ∙ ap (λ o. laid o a1 ys) h.bytes ∙ ap (λ n. laid (laid out at xs) n ys) h.next ∙ sym (laid_append xs ys out at);
-      next = omega (arith, k.next, h.next, length-append xs ys);
+      same = k.same ∙ h.same;
+      bytes = λ small.
+          let e : v.out.now ≡ laid w.out.now w.at xs = h.bytes small in
+          let l : length v.out.now ≡ length w.out.now = ap length e ∙ laid_length xs w.out.now w.at in
+          let m : length (laid w.out.now w.at xs) ≤ 2 ^ 64 - 1 = omega (arith, laid_length xs w.out.now w.at) in
+          k.bytes (omega arith)
+          ∙ ap (λ o. laid o v.at ys) e
+          ∙ ap (λ a. laid (laid w.out.now w.at xs) a ys) h.next
+          ∙ laid_stopped ys (laid w.out.now w.at xs) (w.at + length xs) (2 ^ 64 - 1) m
+          ∙ sym (laid_append xs ys w.out.now w.at);
+      next = omega (arith, k.next, h.next, n);
     }
 
--- what is left to write ends as the whole does
-pub record Leads (out : List ℕ) (at : ℕ) (rest out0 : List ℕ) (at0 : ℕ) (all : List ℕ) : Type 0 where
-  pub bytes : laid out at rest ≡ laid out0 at0 all
-  pub next : at + length rest ≡ at0 + length all
-
-pub leads_on : {out o1 out0 : List ℕ} {at a1 at0 : ℕ} (xs ys all : List ℕ) → Leads out at (xs ++ ys) out0 at0 all → Wrote out at xs o1 a1 → Leads o1 a1 ys out0 at0 all
-leads_on {out} {o1} {out0} {at} {a1} {at0} xs ys all h w =
-    record {
-      bytes = ap (λ o. laid o a1 ys) w.bytes ∙ ap (λ n. laid (laid out at xs) n ys) w.next ∙ sym (laid_append xs ys out at) ∙ h.bytes;
-      next = omega (arith, h.next, w.next, length-append xs ys);
-    }
-
-pub leads_done : {out out0 : List ℕ} {at at0 : ℕ} (all : List ℕ) → Leads out at [] out0 at0 all → Wrote out0 at0 all out at
-leads_done all h = record { bytes = h.bytes; next = omega (arith, h.next) }
+-- nothing was put
+pub wrote_none : (w : Writer) → w.at < 2 ^ 64 → Wrote w [] w
+wrote_none w lt = record { same = refl; bytes = λ small. refl; next = omega arith }
 
 -- the same bytes under another name
-pub wrote_as : {out o1 : List ℕ} {at a1 : ℕ} {xs ys : List ℕ} → xs ≡ ys → Wrote out at xs o1 a1 → Wrote out at ys o1 a1
-wrote_as {out} {o1} {at} {a1} e h = subst (λ bs. Wrote out at bs o1 a1) e h
-
-pub leads_from : {out out0 : List ℕ} {at at0 : ℕ} {xs ys all : List ℕ} → xs ≡ ys → Leads out at xs out0 at0 all → Leads out at ys out0 at0 all
-leads_from {out} {out0} {at} {at0} {all = all} e h = subst (λ bs. Leads out at bs out0 at0 all) e h
+pub wrote_as : {w v : Writer} {xs ys : List ℕ} → xs ≡ ys → Wrote w xs v → Wrote w ys v
+wrote_as {w} {v} e h = subst (λ bs. Wrote w bs v) e h

@@ -1,5 +1,5 @@
 -- The text of a sheet.
-use Rattle.std.specs.Prelude.{ℕ, zero, suc, ◌+◌, ◌≤◌, cond, List, [], ◌∷◌, ◌++◌, map, length, take, codes, decimal}
+use Rattle.std.specs.Prelude.{ℕ, zero, suc, ◌+◌, cond, List, [], ◌∷◌, ◌++◌, map, take, codes, decimal}
 use Rattle.model.specs.declared.rows.Row.{Row}
 use Rattle.model.specs.declared.rows.Item.{Item}
 use Rattle.model.specs.Sets.{has}
@@ -64,15 +64,6 @@ sheet_text s rows items =
     ++ (records_text s.verdict s.records rows items
     ++ end_text s.records))
 
--- a state behind its comma, where it is in the set
-abbrev pub state_text : ℕ → ℕ → List ℕ
-state_text s q = cond (has s q) (44 ∷ decimal q) []
-
 -- the right states of a row
 abbrev pub states_text : ℕ → List ℕ
 states_text s = further (map decimal (members 128 0 s))
-
--- the slice that a verdict's records stand in has so many
-abbrev pub Enough : Verdict → ℕ → List Row → List Item → Type 0
-Enough Included n rows items = n ≤ length rows
-Enough Excluded n rows items = n ≤ length items

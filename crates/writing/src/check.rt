@@ -1,14 +1,12 @@
 //! What writing refuses.
 ghost use Rattle.std.specs.Prelude.{◌≡◌, ◌≤◌, length};
-ghost use Rattle.records.specs.Places.{item_fits};
-ghost use Rattle.writing.specs.Checks.{row_fits, places_checked, records_checked, pair_checked, sheet_checked};
+ghost use Rattle.writing.specs.Checks.{row_fits, places_checked, pair_checked, sheet_checked};
 
-use model::names::Name;
+use crate::record::Record;
 use model::rows::{Item, Row};
-use records::fault::CallFault;
-use records::place::item_fits;
+use records::fault::{CallFault, ensure};
 use records::read::counts;
-use records::sheet::{Sheet, Verdict};
+use records::sheet::{Bounds, Sheet, Verdict};
 use text::fault::TableFault;
 
 /// Whether a row's left state and all its right states are below the number of states.
@@ -19,33 +17,18 @@ pub fn row_fits(states: usize, row: Row) -> bool
     row.left < states && (states >= 128 || bits >> states == 0)
 }
 
-/// Refuses the first of the rows that has no place or does not fit it.
-fn check_rows(states: usize, records: usize, rows: &[Row]) -> Result<(), CallFault>
-    requires { length rows.now ≤ 512 }
-    ensures { result ≡ places_checked (λ _ x. row_fits states x) 0 records rows.now }
+/// Refuses the first of so many records that has no place or does not fit it.
+fn check_records<R: Record>(bounds: Bounds, count: usize, records: &[R]) -> Result<(), CallFault>
+    requires { length records.now ≤ 512 }
+    ensures { result ≡ places_checked (R.fits_after bounds.entry.states bounds.entry.names.now) 0 count records.now }
 {
-    for i in 0..records {
-        if i >= rows.len() {
-            return Err(CallFault::Room { line: i + 3 });
-        }
-        if !row_fits(states, rows[i]) {
-            return Err(TableFault::Place { line: i + 3 }.into());
-        }
-    }
-    Ok(())
-}
-
-/// Refuses the first of the items that has no place or does not fit it.
-fn check_items(names: &[Name], records: usize, items: &[Item]) -> Result<(), CallFault>
-    requires { length items.now ≤ 512 }
-    ensures { result ≡ places_checked (item_fits names.now) 0 records items.now }
-{
-    for i in 0..records {
-        if i >= items.len() {
-            return Err(CallFault::Room { line: i + 3 });
-        }
-        if !item_fits(names, i, items[i]) {
-            return Err(TableFault::Place { line: i + 3 }.into());
+    for i in 0..count {
+        let line = i + 3;
+        let Some(record) = records.get(i) else {
+            return Err(CallFault::Room { line });
+        };
+        if !record.fits(bounds, i) {
+            return Err(TableFault::Place { line }.into());
         }
     }
     Ok(())
@@ -55,28 +38,25 @@ fn check_items(names: &[Name], records: usize, items: &[Item]) -> Result<(), Cal
 fn check_pair(rules: usize, sheet: Sheet) -> Result<(), CallFault>
     ensures { result ≡ pair_checked rules sheet }
 {
-    if sheet.left < rules && sheet.right < rules {
-        Ok(())
-    } else {
-        Err(CallFault::Rule { line: 2 })
-    }
+    ensure(
+        sheet.left < rules && sheet.right < rules,
+        CallFault::Rule { line: 2 },
+    )
 }
 
 /// Refuses what reading the sheet's text would refuse.
 pub(crate) fn check_sheet(
-    rules: usize,
-    states: usize,
-    names: &[Name],
     sheet: Sheet,
+    bounds: Bounds,
     rows: &[Row],
     items: &[Item],
 ) -> Result<(), CallFault>
-    ensures { result ≡ sheet_checked rules states names.now sheet rows.now items.now }
+    ensures { result ≡ sheet_checked bounds.entry.rules bounds.entry.states bounds.entry.names.now sheet rows.now items.now }
 {
     counts(rows.len(), items.len())?;
-    check_pair(rules, sheet)?;
+    check_pair(bounds.rules, sheet)?;
     match sheet.verdict {
-        Verdict::Included => check_rows(states, sheet.records, rows),
-        Verdict::Excluded => check_items(names, sheet.records, items),
+        Verdict::Included => check_records(bounds, sheet.records, rows),
+        Verdict::Excluded => check_records(bounds, sheet.records, items),
     }
 }

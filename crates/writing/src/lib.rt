@@ -3,4 +3,5 @@
 
 pub mod check;
 pub mod put;
+pub mod record;
 pub mod write;

@@ -1,182 +1,137 @@
-//! Bytes, words, numbers and records into an output, from a place on. Where the output has no such
-//! place nothing is altered, so that an empty output gives the length alone.
-ghost use Rattle.std.specs.Prelude.{◌≡◌, ◌+◌, ◌^◌, ◌<◌, [], ◌∷◌, length, decimal};
-ghost use Rattle.writing.specs.Wrote.{Wrote};
-ghost use Rattle.writing.specs.Texts.{state_text, states_text, row_text, item_text, all_texts, records_text, verdict_line, pair_text, end_text, sheet_text, Enough};
+//! Bytes, words, numbers and records, put into a lent output.
+ghost use Rattle.std.specs.Prelude.{◌≡◌, ◌^◌, ◌-◌, [], ◌∷◌, min, map, take, length, decimal};
+ghost use Rattle.writing.specs.Wrote.{laid, Wrote};
+ghost use Rattle.writing.specs.Texts.{further, line_text, states_text, all_texts, records_text, verdict_line, sheet_text};
 
+use crate::record::Record;
+use itoa::Buffer;
 use model::rows::{Item, Row};
 use model::sets::StateSet;
 use records::sheet::{Sheet, Verdict};
 
-/// Puts a byte, and answers the next place.
-fn put(out: &mut [u8], at: usize, byte: u8) -> usize
-    requires { at + 1 < 2 ^ 64 }
-    ensures { Wrote out.old at (byte ∷ []) out.new result }
-{
-    if at < out.len() {
-        out[at] = byte;
+/// A lent output with the next place. Where the output has no such place nothing is altered, so
+/// that an empty output gives the length alone. The place stops at the greatest number.
+#[derive(Drop)]
+pub(crate) struct Writer<'a> {
+    out: &'a mut [u8],
+    at: usize,
+}
+
+impl Writer<'_> {
+    /// Puts a byte.
+    pub(crate) fn byte(&mut self, byte: u8)
+        ensures { Wrote self.old (byte ∷ []) self.new }
+    {
+        let at = self.at;
+        let out = &mut *self.out;
+        if at < out.len() {
+            out[at] = byte;
+        }
+        self.at = at.saturating_add(1);
     }
-    at + 1
-}
 
-/// Puts a word.
-pub(crate) fn put_word(out: &mut [u8], at: usize, word: &[u8]) -> usize
-    requires { at + length word.now < 2 ^ 64 }
-    ensures { Wrote out.old at word.now out.new result }
-{
-    let mut next = at;
-    for b in word {
-        next = put(out, next, *b);
+    /// Puts a word.
+    pub(crate) fn word(&mut self, word: &[u8])
+        ensures { Wrote self.old word.now self.new }
+    {
+        for byte in word {
+            self.byte(*byte);
+        }
     }
-    next
-}
 
-/// Puts a number in plain decimal.
-pub(crate) fn put_number(out: &mut [u8], at: usize, n: usize) -> usize
-    requires { at + length (decimal n) < 2 ^ 64 }
-    ensures { Wrote out.old at (decimal n) out.new result }
-{
-    if n < 10 {
-        put(out, at, b'0' + n as u8)
-    } else {
-        let next = put_number(out, at, n / 10);
-        put(out, next, b'0' + (n % 10) as u8)
+    /// Puts a number in plain decimal.
+    pub(crate) fn number(&mut self, n: usize)
+        ensures { Wrote self.old (decimal n) self.new }
+    {
+        let mut digits = Buffer::new();
+        self.word(digits.format(n).as_bytes());
     }
-}
 
-/// Puts a further number of a line, behind its comma.
-fn put_further(out: &mut [u8], at: usize, n: usize) -> usize
-    requires { at + length (44 ∷ decimal n) < 2 ^ 64 }
-    ensures { Wrote out.old at (44 ∷ decimal n) out.new result }
-{
-    let next = put(out, at, b',');
-    put_number(out, next, n)
-}
-
-/// Puts a state if it is in the set.
-fn put_state(out: &mut [u8], at: usize, set: StateSet, q: usize) -> usize
-    requires { at + length (state_text set.bits q) < 2 ^ 64 }
-    ensures { Wrote out.old at (state_text set.bits q) out.new result }
-{
-    if set.contains(q) {
-        put_further(out, at, q)
-    } else {
-        at
+    /// Puts a further number of a line, behind its comma.
+    fn further(&mut self, n: usize)
+        ensures { Wrote self.old (44 ∷ decimal n) self.new }
+    {
+        self.byte(b',');
+        self.number(n);
     }
-}
 
-/// Puts the states of a set, rising.
-fn put_states(out: &mut [u8], at: usize, set: StateSet) -> usize
-    requires { at + length (states_text set.bits) < 2 ^ 64 }
-    ensures { Wrote out.old at (states_text set.bits) out.new result }
-{
-    let mut next = at;
-    for q in 0..128 {
-        next = put_state(out, next, set, q);
+    /// Puts the further numbers of a line.
+    fn numbers(&mut self, numbers: &[usize])
+        ensures { Wrote self.old (further (map decimal numbers.now)) self.new }
+    {
+        for n in numbers {
+            self.further(*n);
+        }
     }
-    next
-}
 
-/// Puts a row.
-fn put_row(out: &mut [u8], at: usize, row: Row) -> usize
-    requires { at + length (row_text row) < 2 ^ 64 }
-    ensures { Wrote out.old at (row_text row) out.new result }
-{
-    let begun = put_word(out, at, b"row=");
-    let left = put_number(out, begun, row.left);
-    let right = put_states(out, left, row.right);
-    put(out, right, b'\n')
-}
-
-/// Puts an item.
-fn put_item(out: &mut [u8], at: usize, item: Item) -> usize
-    requires { at + length (item_text item) < 2 ^ 64 }
-    ensures { Wrote out.old at (item_text item) out.new result }
-{
-    let begun = put_word(out, at, b"item=");
-    let name = put_number(out, begun, item.name);
-    let child = put_further(out, name, item.child);
-    let last = put_further(out, child, item.next);
-    put(out, last, b'\n')
-}
-
-/// Puts rows, one after the other.
-fn put_rows(out: &mut [u8], at: usize, rows: &[Row]) -> usize
-    requires { at + length (all_texts row_text rows.now) < 2 ^ 64 }
-    ensures { Wrote out.old at (all_texts row_text rows.now) out.new result }
-{
-    let mut next = at;
-    for row in rows {
-        next = put_row(out, next, *row);
+    /// Puts the states of a set, rising.
+    pub(crate) fn states(&mut self, set: StateSet)
+        ensures { Wrote self.old (states_text set.bits) self.new }
+    {
+        for q in 0..128 {
+            if set.contains(q) {
+                self.further(q);
+            }
+        }
     }
-    next
-}
 
-/// Puts items, one after the other.
-fn put_items(out: &mut [u8], at: usize, items: &[Item]) -> usize
-    requires { at + length (all_texts item_text items.now) < 2 ^ 64 }
-    ensures { Wrote out.old at (all_texts item_text items.now) out.new result }
-{
-    let mut next = at;
-    for item in items {
-        next = put_item(out, next, *item);
+    /// Puts a line of numbers.
+    pub(crate) fn line(&mut self, key: &[u8], first: usize, others: &[usize])
+        ensures { Wrote self.old (line_text key.now (decimal first) (map decimal others.now)) self.new }
+    {
+        self.word(key);
+        self.byte(b'=');
+        self.number(first);
+        self.numbers(others);
+        self.byte(b'\n');
     }
-    next
-}
 
-/// Puts the records of a sheet.
-fn put_records(out: &mut [u8], at: usize, sheet: Sheet, rows: &[Row], items: &[Item]) -> usize
-    requires enough { Enough sheet.verdict sheet.records rows.now items.now }
-    requires fits { at + length (records_text sheet.verdict sheet.records rows.now items.now) < 2 ^ 64 }
-    ensures { Wrote out.old at (records_text sheet.verdict sheet.records rows.now items.now) out.new result }
-{
-    let records = sheet.records;
-    match sheet.verdict {
-        Verdict::Included => put_rows(out, at, &rows[0..records]),
-        Verdict::Excluded => put_items(out, at, &items[0..records]),
+    /// Puts the first of the records, at most so many, one after the other.
+    fn records<R: Record>(&mut self, count: usize, records: &[R])
+        ensures { Wrote self.old (all_texts R.text (take count records.now)) self.new }
+    {
+        for record in &records[..count.min(records.len())] {
+            record.put(self);
+        }
     }
-}
 
-/// Puts the first line of a sheet.
-fn put_verdict(out: &mut [u8], at: usize, verdict: Verdict) -> usize
-    requires { at + 15 < 2 ^ 64 }
-    ensures { Wrote out.old at (verdict_line verdict) out.new result }
-{
-    match verdict {
-        Verdict::Included => put_word(out, at, b"sheet=included\n"),
-        Verdict::Excluded => put_word(out, at, b"sheet=excluded\n"),
+    /// Puts the first line of a sheet.
+    fn verdict(&mut self, verdict: Verdict)
+        ensures { Wrote self.old (verdict_line verdict) self.new }
+    {
+        match verdict {
+            Verdict::Included => self.word(b"sheet=included\n"),
+            Verdict::Excluded => self.word(b"sheet=excluded\n"),
+        }
     }
-}
 
-/// Puts the pair of a sheet.
-fn put_pair(out: &mut [u8], at: usize, left: usize, right: usize) -> usize
-    requires { at + length (pair_text left right) < 2 ^ 64 }
-    ensures { Wrote out.old at (pair_text left right) out.new result }
-{
-    let begun = put_word(out, at, b"pair=");
-    let first = put_number(out, begun, left);
-    let second = put_further(out, first, right);
-    put(out, second, b'\n')
-}
+    /// Puts the records of a sheet.
+    fn sheet_records(&mut self, sheet: Sheet, rows: &[Row], items: &[Item])
+        ensures { Wrote self.old (records_text sheet.verdict sheet.records rows.now items.now) self.new }
+    {
+        match sheet.verdict {
+            Verdict::Included => self.records(sheet.records, rows),
+            Verdict::Excluded => self.records(sheet.records, items),
+        }
+    }
 
-/// Puts the end of a sheet.
-fn put_end(out: &mut [u8], at: usize, records: usize) -> usize
-    requires { at + length (end_text records) < 2 ^ 64 }
-    ensures { Wrote out.old at (end_text records) out.new result }
-{
-    let begun = put_word(out, at, b"end=");
-    let number = put_number(out, begun, records);
-    put(out, number, b'\n')
+    /// Puts a sheet.
+    fn sheet(&mut self, sheet: Sheet, rows: &[Row], items: &[Item])
+        ensures { Wrote self.old (sheet_text sheet rows.now items.now) self.new }
+    {
+        self.verdict(sheet.verdict);
+        self.line(b"pair", sheet.left, &[sheet.right]);
+        self.sheet_records(sheet, rows, items);
+        self.line(b"end", sheet.records, &[]);
+    }
 }
 
 /// Puts a sheet from the first place on, and answers its length.
 pub(crate) fn put_sheet(out: &mut [u8], sheet: Sheet, rows: &[Row], items: &[Item]) -> usize
-    requires enough { Enough sheet.verdict sheet.records rows.now items.now }
-    requires fits { length (sheet_text sheet rows.now items.now) < 2 ^ 64 }
-    ensures { Wrote out.old 0 (sheet_text sheet rows.now items.now) out.new result }
+    ensures bytes { out.new ≡ laid out.old 0 (sheet_text sheet rows.now items.now) }
+    ensures length { result ≡ min (length (sheet_text sheet rows.now items.now)) (2 ^ 64 - 1) }
 {
-    let verdict = put_verdict(out, 0, sheet.verdict);
-    let pair = put_pair(out, verdict, sheet.left, sheet.right);
-    let records = put_records(out, pair, sheet, rows, items);
-    put_end(out, records, sheet.records)
+    let mut writer = Writer { out, at: 0 };
+    writer.sheet(sheet, rows, items);
+    writer.at
 }

@@ -6,27 +6,24 @@ ghost use Rattle.writing.specs.Wrote.{filled};
 
 use crate::check::check_sheet;
 use crate::put::put_sheet;
-use model::names::Name;
 use model::rows::{Item, Row};
 use records::fault::CallFault;
-use records::sheet::Sheet;
+use records::sheet::{Bounds, Sheet};
 
 /// Writes the text of a sheet with its records, the first of the rows or items, and answers its
 /// length. It refuses what reading that text would refuse, and an output that is shorter than the
 /// text; then the output is as before. Past the text no byte of it is altered.
 pub fn write_sheet(
     sheet: Sheet,
-    rules: usize,
-    states: usize,
-    names: &[Name],
+    bounds: Bounds,
     rows: &[Row],
     items: &[Item],
     out: &mut [u8],
 ) -> Result<usize, CallFault>
-    ensures result { result ≡ sheet_written rules states names.now sheet rows.now items.now (length out.old) }
+    ensures result { result ≡ sheet_written bounds.entry.rules bounds.entry.states bounds.entry.names.now sheet rows.now items.now (length out.old) }
     ensures out { out.new ≡ filled result (sheet_text sheet rows.now items.now) out.old }
 {
-    check_sheet(rules, states, names, sheet, rows, items)?;
+    check_sheet(sheet, bounds, rows, items)?;
     let mut nothing: [u8; 0] = [];
     let length = put_sheet(&mut nothing, sheet, rows, items);
     if length > out.len() {

@@ -13,10 +13,9 @@ returns c =
     let R = hedge_read names m n bs in
     let p = c.in_ok-progress.progress in
     let g = c.in_ok-progress.ensures in
-    let S = hedge_sound names m n bs p _ _ g.result g.rows g.items in
+    let S = hedge_sound names m n bs p _ _ g.answered g.rows_left g.items_left in
     record {
-      result = answer_more count_of R p g.result;
-      rows = S.no_rows ∙ ap (λ k. replicate k blank_row) c.read_text.auto.rows;
-      items = g.items;
+      read = record { answered = answer_more count_of R p g.answered; rows_left = g.rows_left; items_left = g.items_left };
+      rows = S.no_rows ∙ ap (λ k. replicate k blank_row) c.read.auto.rows;
       sound = S;
     }

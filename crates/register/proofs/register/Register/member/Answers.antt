@@ -12,7 +12,7 @@ returns c =
     let m : Machine = view self.grammar.now.machine self.covers in
     let x = tested t m self.grounded c.args.rule (length c.args.rows.now) (length c.args.items.now) c.args.text.now c.in_default.field-0
     c.names.result.now c.in_ok-records.records c.read_hedge.new.items c.first.result.now c.has-yes.result
-    c.in_default.ensures c.names.ensures c.in_ok-records.ensures.result c.in_ok-records.ensures.items c.first.ensures c.has-yes.ensures.has in
+    c.in_default.ensures c.names.ensures c.in_ok-records.ensures.read.answered c.in_ok-records.ensures.read.items_left c.first.ensures c.has-yes.ensures.has in
     record {
       result = x.result;
       rows = c.in_ok-records.ensures.rows;
