@@ -2,12 +2,14 @@
 #![tactic(auto)]
 
 mod ask;
-mod commands;
+mod command;
+mod hedge;
+mod named;
+mod records;
 mod runs;
-mod show;
-mod words;
+mod tell;
 
-use commands::obey;
+use command::obey;
 use std::process::ExitCode;
 
 fn main(rt: HostRuntime) -> ExitCode {

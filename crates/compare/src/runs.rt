@@ -1,35 +1,21 @@
 //! Replaying a script.
-use crate::ask::{derivative_count, load_fault, read_file};
-use crate::commands::Named;
-use crate::show::{show_items, show_rows};
-use crate::words::{Fault, layer_name};
-use text::fault::Fault as _;
-use ledger::table::Settled;
+use crate::named::Named;
+use crate::records::{ItemLine, RowLine};
+use crate::tell::{Counts, load_text, read_file, show_refusal};
 use load::grammar::Grammar;
-use load::load::load;
-use model::relation::{Exact, Heads, Relation};
-use records::sheet::Verdict;
-use run::call::{Call, Entry, Reply};
+use model::verdict::Verdict;
+use run::call::{Entry, Reply};
 use run::carry::carry_out;
-use script::{ScriptCall, ScriptLine, read_line};
+use script::call::Call;
+use script::line::read_line;
 use search::answer::Answer;
 use std::fs;
 use std::io::Write;
 
-/// `refused number=N line=N layer=L`
-fn show_refusal(rt: &HostRuntime, fault: Fault) -> anyhow::Result<()> {
-    let number = fault.number;
-    let line = fault.line;
-    let layer = layer_name(fault.layer);
-    println!(rt; "refused number={number} line={line} layer={layer}")?;
-    Ok(())
-}
-
 /// The bytes of the file that a call names, or nothing where it names none.
-fn text_of(rt: &HostRuntime, call: ScriptCall) -> anyhow::Result<Vec<u8>> {
+fn text_of(rt: &HostRuntime, call: Call<&str>) -> anyhow::Result<Vec<u8>> {
     match call {
-        ScriptCall::Sheet { file, .. } => read_file(rt, file),
-        ScriptCall::Member { file, .. } => read_file(rt, file),
+        Call::Sheet { text: file, .. } | Call::Member { text: file, .. } => read_file(rt, file),
         _ => Ok(Vec::new(rt.alloc())),
     }
 }
@@ -38,30 +24,27 @@ fn text_of(rt: &HostRuntime, call: ScriptCall) -> anyhow::Result<Vec<u8>> {
 /// is none such.
 fn read_script<'a>(
     rt: &HostRuntime,
-    text: &'a str,
-    calls: &mut Vec<ScriptCall<'a>>,
+    script: &'a str,
+    calls: &mut Vec<Call<&'a str>>,
     texts: &mut Vec<Vec<u8>>,
 ) -> anyhow::Result<bool> {
-    for line in text.lines() {
-        match read_line(line) {
-            ScriptLine::Passed => {}
-            ScriptLine::Wrong => {
-                eprintln!(rt; "this line is no call: {line}")?;
-                return Ok(false);
-            }
-            ScriptLine::Call(call) => {
-                texts.push(text_of(rt, call)?)?;
-                calls.push(call)?;
-            }
+    for line in script.lines() {
+        let Ok(read) = read_line(line) else {
+            eprintln!(rt; "this line is no call: {line}")?;
+            return Ok(false);
+        };
+        if let Some(call) = read {
+            texts.push(text_of(rt, call)?)?;
+            calls.push(call)?;
         }
     }
     Ok(true)
 }
 
 /// A call of the script with the text of its file.
-fn with_text<'a>(call: ScriptCall, text: &'a [u8]) -> Call<'a> {
+fn with_text<'a>(call: Call<&str>, text: &'a [u8]) -> Call<&'a [u8]> {
     match call {
-        ScriptCall::Question {
+        Call::Question {
             left,
             right,
             rows,
@@ -72,8 +55,8 @@ fn with_text<'a>(call: ScriptCall, text: &'a [u8]) -> Call<'a> {
             rows,
             items,
         },
-        ScriptCall::Sheet { rows, items, .. } => Call::Sheet { text, rows, items },
-        ScriptCall::Member {
+        Call::Sheet { rows, items, .. } => Call::Sheet { text, rows, items },
+        Call::Member {
             rule,
             rows,
             items,
@@ -84,9 +67,9 @@ fn with_text<'a>(call: ScriptCall, text: &'a [u8]) -> Call<'a> {
             rows,
             items,
         },
-        ScriptCall::Write { room } => Call::Write { room },
-        ScriptCall::LookUp { left, right } => Call::LookUp { left, right },
-        ScriptCall::Clear => Call::Clear,
+        Call::Write { room } => Call::Write { room },
+        Call::LookUp { left, right } => Call::LookUp { left, right },
+        Call::Clear => Call::Clear,
     }
 }
 
@@ -115,115 +98,77 @@ fn filled(reply: Reply) -> (usize, usize) {
     }
 }
 
-/// The records that a call left, and how many rows and items lie beyond them.
+/// The records that a call left, a line each, and how many rows and items lie beyond them.
 fn show_records(rt: &HostRuntime, entry: &Entry) -> anyhow::Result<()> {
     let given = entry.rows.len();
     if given == 0 || given > 512 || given != entry.items.len() {
         return Ok(());
     }
     let (rows, items) = filled(entry.reply);
-    show_rows(rt, entry.rows.as_slice(), rows)?;
-    show_items(rt, entry.items.as_slice(), items)?;
+    for row in entry.rows.iter().take(rows) {
+        let line = RowLine(*row);
+        println!(rt; "{line}")?;
+    }
+    for item in entry.items.iter().take(items) {
+        let line = ItemLine(*item);
+        println!(rt; "{line}")?;
+    }
     let beyond_rows = given.saturating_sub(rows);
     let beyond_items = given.saturating_sub(items);
     println!(rt; "blank rows={beyond_rows} items={beyond_items}")?;
     Ok(())
 }
 
-/// The word of a settled pair.
-fn settled_word(settled: Settled) -> &'static str {
-    match settled {
-        Settled::Unsettled => "unsettled",
-        Settled::Included => "included",
-        Settled::Excluded => "excluded",
-    }
-}
-
 /// The answer line of an entry.
 fn show_reply(rt: &HostRuntime, entry: &Entry) -> anyhow::Result<()> {
     match entry.reply {
-        Reply::Answered(answer) => show_answer(rt, answer),
+        Reply::Answered(answer) => show_answer(rt, answer)?,
         Reply::Accepted(sheet) => {
+            let verdict = sheet.verdict;
             let records = sheet.records;
-            match sheet.verdict {
-                Verdict::Included => println!(rt; "accepted included records={records}")?,
-                Verdict::Excluded => println!(rt; "accepted excluded records={records}")?,
-            }
-            Ok(())
+            println!(rt; "accepted {verdict} records={records}")?;
         }
         Reply::Tested(membership) => {
             let records = membership.records;
             let word = if membership.yes { "yes" } else { "no" };
             println!(rt; "member {word} records={records}")?;
-            Ok(())
         }
         Reply::Wrote(length) => {
             println!(rt; "wrote length={length}")?;
-            let output = entry.output.as_slice();
-            if length <= output.len() {
-                rt.stdout().write_all(&output[0..length])?;
+            if let Some(text) = entry.output.as_slice().get(..length) {
+                rt.stdout().write_all(text)?;
             }
-            Ok(())
         }
-        Reply::Nothing => Ok(println!(rt; "nothing")?),
-        Reply::LookedUp(settled) => {
-            let word = settled_word(settled);
-            println!(rt; "{word}")?;
-            Ok(())
-        }
-        Reply::Cleared => Ok(println!(rt; "cleared")?),
-        Reply::Refused(fault) => show_refusal(
-            rt,
-            Fault {
-                number: fault.number(),
-                line: fault.line(),
-                layer: fault.layer(),
-            },
-        ),
-        Reply::Declined(fault) => show_refusal(
-            rt,
-            Fault {
-                number: fault.number(),
-                line: fault.line(),
-                layer: fault.layer(),
-            },
-        ),
-    }
-}
-
-/// Carries out the calls and prints each answer.
-fn replay_with<R: Relation>(
-    rt: &HostRuntime,
-    grammar: &Grammar,
-    relation: &R,
-    calls: &[Call],
-) -> anyhow::Result<()> {
-    let entries = carry_out(rt.alloc(), grammar, relation, calls)?;
-    for entry in entries.iter() {
-        show_reply(rt, entry)?;
-        show_records(rt, entry)?;
+        Reply::Nothing => println!(rt; "nothing")?,
+        Reply::LookedUp(Some(verdict)) => println!(rt; "{verdict}")?,
+        Reply::LookedUp(None) => println!(rt; "unsettled")?,
+        Reply::Cleared => println!(rt; "cleared")?,
+        Reply::Refused(fault) => show_refusal(rt, fault)?,
+        Reply::Declined(fault) => show_refusal(rt, fault)?,
     }
     Ok(())
 }
 
 /// The line for a loaded grammar.
 fn show_loaded(rt: &HostRuntime, grammar: &Grammar) -> anyhow::Result<()> {
-    let names = grammar.tables.names().len();
-    let nodes = grammar.tables.nodes().len();
-    let rules = grammar.tables.bodies().len();
-    let states = grammar.machine.count();
-    let derivatives = derivative_count(grammar);
+    let Counts {
+        names,
+        nodes,
+        rules,
+        states,
+        derivatives,
+    } = Counts::of(grammar);
     println!(rt;
         "loaded names={names} nodes={nodes} rules={rules} states={states} derivatives={derivatives}"
     )?;
     Ok(())
 }
 
-/// Replays a script's calls on one register of the grammar.
+/// Replays a script's calls on one register of the grammar, and prints each answer.
 fn replay_on(
     rt: &HostRuntime,
     grammar: &Grammar,
-    named: Named,
+    relation: Named,
     script: &str,
 ) -> anyhow::Result<bool> {
     let mut spelled = Vec::new(rt.alloc());
@@ -233,24 +178,25 @@ fn replay_on(
     for (call, text) in spelled.iter().zip(texts.iter()) {
         calls.push(with_text(*call, text.as_slice()))?;
     }
-    match named {
-        Named::Exact => replay_with(rt, grammar, &Exact {}, calls.as_slice())?,
-        Named::Heads => replay_with(rt, grammar, &Heads {}, calls.as_slice())?,
+    let entries = carry_out(rt.alloc(), grammar, &relation, calls.as_slice())?;
+    for entry in &entries {
+        show_reply(rt, entry)?;
+        show_records(rt, entry)?;
     }
     Ok(whole)
 }
 
-/// Replays a script on one register from new, and prints each answer.
-pub fn replay(rt: &HostRuntime, path: &str, named: Named, script: &str) -> anyhow::Result<bool> {
+/// Replays a script on one register from new.
+pub fn replay(rt: &HostRuntime, path: &str, relation: Named, script: &str) -> anyhow::Result<bool> {
     let text = read_file(rt, path)?;
     let script = fs::read_to_string(rt, script)?;
-    match load(rt.alloc(), text.as_slice()) {
+    match load_text(rt, text.as_slice())? {
         Ok(grammar) => {
             show_loaded(rt, &grammar)?;
-            replay_on(rt, &grammar, named, script.as_str())
+            replay_on(rt, &grammar, relation, script.as_str())
         }
-        Err(error) => {
-            show_refusal(rt, load_fault(error)?)?;
+        Err(fault) => {
+            show_refusal(rt, fault)?;
             Ok(true)
         }
     }

@@ -3,7 +3,7 @@ use Rattle.std.specs.Prelude.{◌≡◌, ℕ, zero, suc, ◌-◌, ◌<◌, Bool,
 use Rattle.std.proofs.Common.{arith, sub-one, sym, ap, subst, ◌∙◌, ⊎_elim, eq-eqb, ne_eqb, eqb-true, lt-ltb, ltb-true}
 use Rattle.std.proofs.lemmas.Bool.{or_left, or_cases, and_parts, and_from, false≢true}
 use Rattle.model.specs.declared.names.Name.{Name}
-use Rattle.model.specs.Relation.{no_name, kind_of, Headed, Lawful, above, heads}
+use Rattle.model.specs.Relation.{no_name, kind_of, Headed, Lawful, exact, above, heads}
 
 pub above_here : (n : ℕ) (names : List Name) (h t : ℕ) → h ≡ t → above n names h t ≡ true
 above_here zero names h t e = eq-eqb h t e
@@ -68,4 +68,13 @@ heads_lawful names ok = record {
       ((climb (length names) names ok h t lt p.1).0, lt);
   own_kind = λ h t e. let p = and_parts (nat_lt t (length names)) _ e in
       (climb (length names) names ok h t (ltb-true t (length names) p.0) p.1).1;
+}
+
+pub exact_lawful : (names : List Name) → Headed names → Lawful names (exact names)
+exact_lawful names ok = record {
+  itself = λ t lt. and_from _ _ (lt-ltb t (length names) lt) (eq-eqb t t refl);
+  named = λ h t e. let p = and_parts (nat_lt t (length names)) _ e in
+      let lt = ltb-true t (length names) p.0 in
+      (subst (λ k. k < length names) (sym (eqb-true h t p.1)) lt, lt);
+  own_kind = λ h t e. ap (kind_of names) (eqb-true h t (and_parts (nat_lt t (length names)) _ e).1);
 }

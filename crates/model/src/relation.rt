@@ -2,8 +2,7 @@
 ghost use Rattle.std.specs.Prelude.{◌≡◌, ℕ, Bool, List, slice_index_or};
 ghost use Rattle.model.specs.declared.names.Name.{Name as NameType};
 ghost use Rattle.model.specs.Relation.{Headed, Lawful, exact, heads, above, no_name};
-ghost use Rattle.std.proofs.Common.{rules};
-ghost use Rattle.model.specs.Climb.{heads_lawful};
+ghost use Rattle.model.specs.Climb.{exact_lawful, heads_lawful};
 
 use crate::names::Name;
 
@@ -30,7 +29,7 @@ pub struct Heads {}
 impl Relation for Exact {
     ghost covered = { λ _ names h t. exact names h t };
 
-    ghost lawful = { Prim.search rules };
+    ghost lawful = { λ s names ok. exact_lawful names ok };
 
     fn covers(&self, names: &[Name], h: usize, t: usize) -> bool {
         t < names.len() && h == t

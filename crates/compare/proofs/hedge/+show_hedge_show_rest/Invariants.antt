@@ -1,5 +1,5 @@
 use Rattle.std.proofs.Common.{◌+◌, ◌*◌}
-use Rattle.compare.proofs.show.+show_hedge_show_rest.Given as goal
+use Rattle.compare.proofs.hedge.+show_hedge_show_rest.Given as goal
 
 abbrev pub decreases-show_hedge : goal.decreases-show_hedge
 decreases-show_hedge l = 2 * l.number + 1
