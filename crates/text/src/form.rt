@@ -1,56 +1,34 @@
 //! The forms of numbers and spellings, byte by byte.
 ghost use Rattle.std.specs.Prelude.{◌≡◌, ◌≤◌, true, length};
-ghost use Rattle.text.specs.Forms.{digit, letter, belongs, all_of, decimal_after, is_number, number_of, is_spelling};
-ghost use Rattle.text.specs.declared.form.Class.TheVariants.{Digit};
+ghost use Rattle.std.specs.List.{list_all};
+ghost use Rattle.text.specs.Forms.{digit, letter, further, decimal_after, is_number, number_of, is_spelling};
 
-/// A class of bytes.
-#[derive(Clone, Copy)]
-pub enum Class {
-    /// A digit.
-    Digit,
-    /// What a spelling begins with: a letter or an underscore.
-    Begin,
-    /// What it goes on with: also a digit, a point or a hyphen.
-    Further,
-}
-
-/// Whether the byte is a digit.
-fn is_digit(b: u8) -> bool
-    ensures { result ≡ digit b }
-{
-    (b >= b'0') & (b <= b'9')
-}
-
-/// Whether the byte is a letter or an underscore.
-fn is_letter(b: u8) -> bool
+/// Whether a spelling may begin with the byte: a letter or an underscore.
+fn begins(b: u8) -> bool
     ensures { result ≡ letter b }
 {
-    ((b >= b'A') & (b <= b'Z')) | ((b >= b'a') & (b <= b'z')) | (b == b'_')
+    b.is_ascii_alphabetic() || b == b'_'
 }
 
-impl Class {
-    /// Whether the byte belongs to the class.
-    fn has(self, b: u8) -> bool
-        ensures { result ≡ belongs self b }
-    {
-        match self {
-            Class::Digit => is_digit(b),
-            Class::Begin => is_letter(b),
-            Class::Further => is_letter(b) | is_digit(b) | (b == b'.') | (b == b'-'),
-        }
-    }
+/// Whether a spelling may go on with the byte: also a digit, a point or a hyphen.
+fn goes_on(b: u8) -> bool
+    ensures { result ≡ further b }
+{
+    begins(b) || b.is_ascii_digit() || b == b'.' || b == b'-'
+}
 
-    /// Whether each byte belongs to the class.
-    fn has_all(self, bytes: &[u8]) -> bool
-        ensures { result ≡ all_of self bytes.now }
-    {
-        for b in bytes {
-            if !self.has(*b) {
-                return false;
-            }
-        }
-        true
-    }
+/// Whether all bytes are digits.
+fn are_digits(bytes: &[u8]) -> bool
+    ensures { result ≡ list_all digit bytes.now }
+{
+    bytes.iter().all(u8::is_ascii_digit)
+}
+
+/// Whether a spelling may go on with each of the bytes.
+fn go_on(bytes: &[u8]) -> bool
+    ensures { result ≡ list_all further bytes.now }
+{
+    bytes.iter().all(|b| goes_on(*b))
 }
 
 /// Whether the bytes are one to nine digits, the first of several not 0.
@@ -63,18 +41,18 @@ fn is_decimal(bytes: &[u8]) -> bool
     if bytes.len() > 1 && bytes[0] == b'0' {
         return false;
     }
-    Class::Digit.has_all(bytes)
+    are_digits(bytes)
 }
 
 /// The number that at most nine digits write.
 fn decimal(bytes: &[u8]) -> usize
     requires few { length bytes.now ≤ 9 }
-    requires digits { all_of Digit bytes.now ≡ true }
+    requires digits { list_all digit bytes.now ≡ true }
     ensures { result ≡ decimal_after 0 bytes.now }
 {
     let mut n = 0;
     for b in bytes {
-        n = n * 10 + (*b - b'0') as usize;
+        n = n * 10 + usize::from(*b - b'0');
     }
     n
 }
@@ -83,11 +61,7 @@ fn decimal(bytes: &[u8]) -> usize
 pub(crate) fn number(bytes: &[u8]) -> Option<usize>
     ensures { result ≡ number_of bytes.now }
 {
-    if is_decimal(bytes) {
-        Some(decimal(bytes))
-    } else {
-        None
-    }
+    is_decimal(bytes).then(|| decimal(bytes))
 }
 
 /// Whether the bytes are a letter or underscore and up to 31 further letters, digits, underscores, points or hyphens.
@@ -97,5 +71,5 @@ pub(crate) fn is_name(bytes: &[u8]) -> bool
     if bytes.is_empty() || bytes.len() > 32 {
         return false;
     }
-    Class::Begin.has(bytes[0]) && Class::Further.has_all(bytes)
+    begins(bytes[0]) && go_on(bytes)
 }
