@@ -10,9 +10,8 @@ use Rattle.text.specs.declared.fault.LineFault.{LineFault}
 use Rattle.text.specs.declared.fault.LineFault.TheVariants.{Spelling as BadSpelling}
 use Rattle.text.specs.declared.fault.TableFault.{TableFault}
 use Rattle.text.specs.declared.fault.TableFault.TheVariants.{Full}
-use Rattle.text.specs.declared.form.Class.TheVariants.{Further}
 use Rattle.text.specs.Fields.{key, number, spelling, value_in, or_number, spelling_in}
-use Rattle.text.specs.Forms.{is_spelling}
+use Rattle.text.specs.Forms.{further, is_spelling}
 use Rattle.text.specs.Cursors.{line_parts}
 use Rattle.text_law.specs.Writing.{commas, keyed, lacks}
 use Rattle.text_law.proofs.Cut.{parts_keyed, lacks_all}
@@ -36,7 +35,7 @@ clean_kind kinds.Simple = (refl, refl)
 clean_kind kinds.Element = (refl, refl)
 
 clean_spelling : (s : List ℕ) → is_spelling s ≡ true → Clean s
-clean_spelling s h = let p = and_parts _ _ h in (lacks_all Further 44 s refl p.1, lacks_all Further 10 s refl p.1)
+clean_spelling s h = let p = and_parts _ _ h in (lacks_all further 44 s refl p.1, lacks_all further 10 s refl p.1)
 
 clean_decimal : (v : ℕ) → v < 1000000000 → Clean (decimal v)
 clean_decimal v h = (lacks_decimal 44 v h refl, lacks_decimal 10 v h refl)

@@ -15,7 +15,8 @@ use Rattle.tables.specs.declared.draft.Mention.{Mention}
 use Rattle.tables.specs.Checks.{has, same_kind, no_name, kind_at, may_head, may_stand}
 use Rattle.tables.specs.Read.{headed, present}
 use Rattle.tables_law.specs.Lawful.{Apart, Headed, Standing}
-use Rattle.text_law.proofs.Cases.{no_ok, no_some, same_some}
+use Rattle.std.proofs.lemmas.Option.{none-some, same_Some}
+use Rattle.text_law.proofs.Cases.{no_ok}
 
 -- an index of a longer list is an old one or the new one
 pub push_cases : {X : Type 0} (xs : List X) (x : X) (i : ℕ) → i < length (xs ++ x ∷ []) → (i < length xs) ⊎ (i ≡ length xs)
@@ -44,7 +45,7 @@ headed_more xs k a t h l e =
     let b = a t h o (sym (ap (λ (n : Name). n.head) f) ∙ e) in
     let g : h < length xs = omega (arith, b.0) in
     (b.0, ap (λ (n : Name). n.kind) f ∙ b.1 ∙ sym (ap (λ (n : Name). n.kind) (get_or_append_left xs (x ∷ []) no_name h g))))
-    (λ (o : t ≡ length xs). absurd (no_some (sym (ap (λ (n : Name). n.head) (get_or_push xs x no_name t (sym o))) ∙ e)))
+    (λ (o : t ≡ length xs). absurd (none-some _ (sym (ap (λ (n : Name). n.head) (get_or_push xs x no_name t (sym o))) ∙ e)))
     (push_cases xs x t l)
 
 same_kind_is : (a b : Kind) → same_kind a b ≡ true → a ≡ b
@@ -79,7 +80,7 @@ headed_set xs t h a m i j l e =
     let kj = kind_headed xs t h j p.0 in
     ⊎_elim
     (λ (o : i ≡ t).
-    let s : h ≡ j = same_some (sym (ap (λ (n : Name). n.head) (get_or-set_same xs t x no_name p.0)) ∙ sym (ap (λ k. (get_or (headed xs t h) k no_name).head) o) ∙ e) in
+    let s : h ≡ j = same_Some _ _ (sym (ap (λ (n : Name). n.head) (get_or-set_same xs t x no_name p.0)) ∙ sym (ap (λ k. (get_or (headed xs t h) k no_name).head) o) ∙ e) in
     (omega (arith, p.1), ki ∙ ap (kind_at xs) o ∙ p.2 ∙ ap (kind_at xs) s ∙ sym kj))
     (λ (o : i ≡ t → ⊥).
     let b = a i j at (sym (ap (λ (n : Name). n.head) (get_or-set_other xs t i x no_name o)) ∙ e) in

@@ -1,7 +1,10 @@
 -- How the place of the first mark cuts a list.
-use Rattle.std.proofs.Common.{◌≡◌, ℕ, ◌+◌, ◌<◌, ◌≤◌, min, Bool, true, false, cond, not, eqb, List, [], ◌∷◌, length, get_or, take, drop, is_some, Some, None, Option, sym, refl, ap, ◌∙◌, ⊎_elim, add-one, arith, Bor}
-use Rattle.std.proofs.lemmas.List.{at_drop_more, at_drop_all, drop-drop, drop_all, length-drop}
-use Rattle.std.proofs.lemmas.Bool.{eq-eqb, ne_eqb, cases_lt}
+use Rattle.std.proofs.Common.{◌≡◌, ℕ, ◌+◌, ◌<◌, ◌≤◌, min, Bool, true, false, cond, not, eqb, List, [], ◌∷◌, length, take, drop, is_some, Some, None, Option, sym, refl, ap, ◌∙◌, ⊎_elim, add-one, arith, Bor}
+use Rattle.std.specs.List.{position, position_or_len}
+use Rattle.std.proofs.lemmas.Option.{none-some, same_Some, cond_some}
+use Rattle.std.proofs.lemmas.List.{drop-drop, drop_all, length-drop}
+use Rattle.std.proofs.lemmas.List.Recursion.{is_position_or_len}
+use Rattle.std.proofs.lemmas.Bool.{cases_lt, lt-ltb, ltb-true}
 use Rattle.text.specs.Pieces.{before, after, onto, pieces, lines, fields}
 use Rattle.text.specs.Cursors.{none_left, fields_in}
 use Rattle.std.specs.Option.{option_map}
@@ -11,15 +14,6 @@ pub front_is : (m : ℕ) (xs : List ℕ) → take (length (before m xs)) xs ≡ 
 front_is m [] = refl
 front_is m (x ∷ xs) =
     elim (eqb x m) as (λ b. take (length (cond b [] (x ∷ before m xs))) (x ∷ xs) ≡ cond b [] (x ∷ before m xs)) [ true ↦ refl | false ↦ ap (λ l. x ∷ l) (front_is m xs) ]
-
-no_some : {X : Type 0} {x : X} → Some x ≡ None → ⊥
-no_some h = let z : ◌≡◌ {A = ℕ} 0 1 = cc in omega arith
-
-no_none : {X : Type 0} {x : X} → None ≡ Some x → ⊥
-no_none h = let z : ◌≡◌ {A = ℕ} 0 1 = cc in omega arith
-
-same_some : {X : Type 0} {x y : X} → Some x ≡ Some y → x ≡ y
-same_some h = cc
 
 -- a mark within the list has the rest after it
 pub back_is : (m : ℕ) (xs : List ℕ) → length (before m xs) < length xs → after m xs ≡ Some (drop (length (before m xs) + 1) xs)
@@ -46,33 +40,43 @@ front_within m (x ∷ xs) =
 
 -- the pieces of a list with a mark: what is before it, and the pieces of what is after it
 pub pieces_more : (m : ℕ) (end : List (List ℕ)) (xs rest : List ℕ) → after m xs ≡ Some rest → pieces m end xs ≡ before m xs ∷ pieces m end rest
-pieces_more m end [] rest h = absurd (no_none h)
+pieces_more m end [] rest h = absurd (none-some _ h)
 pieces_more m end (x ∷ xs) rest h =
-    elim (eqb x m) as (λ b. cond b (Some xs) (after m xs) ≡ Some rest → cond b ([] ∷ pieces m end xs) (onto x (pieces m end xs)) ≡ cond b [] (x ∷ before m xs) ∷ pieces m end rest) [ true ↦ λ h. ap (λ l. [] ∷ pieces m end l) (same_some h) | false ↦ λ h. ap (onto x) (pieces_more m end xs rest h) ] h
+    elim (eqb x m) as (λ b. cond b (Some xs) (after m xs) ≡ Some rest → cond b ([] ∷ pieces m end xs) (onto x (pieces m end xs)) ≡ cond b [] (x ∷ before m xs) ∷ pieces m end rest) [ true ↦ λ h. ap (λ l. [] ∷ pieces m end l) (same_Some _ _ h) | false ↦ λ h. ap (onto x) (pieces_more m end xs rest h) ] h
 
 -- the last field
 pub field_last : (m : ℕ) (xs : List ℕ) → after m xs ≡ None → pieces m ([] ∷ []) xs ≡ before m xs ∷ []
 field_last m [] h = refl
 field_last m (x ∷ xs) h =
-    elim (eqb x m) as (λ b. cond b (Some xs) (after m xs) ≡ None → cond b ([] ∷ pieces m ([] ∷ []) xs) (onto x (pieces m ([] ∷ []) xs)) ≡ cond b [] (x ∷ before m xs) ∷ []) [ true ↦ λ h. absurd (no_some h) | false ↦ λ h. ap (onto x) (field_last m xs h) ] h
+    elim (eqb x m) as (λ b. cond b (Some xs) (after m xs) ≡ None → cond b ([] ∷ pieces m ([] ∷ []) xs) (onto x (pieces m ([] ∷ []) xs)) ≡ cond b [] (x ∷ before m xs) ∷ []) [ true ↦ λ h. absurd (none-some _ (sym h)) | false ↦ λ h. ap (onto x) (field_last m xs h) ] h
 
 -- a last line without its mark
 pub line_last : (m : ℕ) (xs : List ℕ) → after m xs ≡ None → 0 < length xs → pieces m [] xs ≡ before m xs ∷ []
 line_last m [] h l = absurd (omega arith)
 line_last m (x ∷ []) h l =
-    elim (eqb x m) as (λ b. ◌≡◌ {A = Option (List ℕ)} (cond b (Some []) None) None → cond b ([] ∷ []) ((x ∷ []) ∷ []) ≡ cond b [] (x ∷ []) ∷ []) [ true ↦ λ h. absurd (no_some h) | false ↦ λ h. refl ] h
+    elim (eqb x m) as (λ b. ◌≡◌ {A = Option (List ℕ)} (cond b (Some []) None) None → cond b ([] ∷ []) ((x ∷ []) ∷ []) ≡ cond b [] (x ∷ []) ∷ []) [ true ↦ λ h. absurd (none-some _ (sym h)) | false ↦ λ h. refl ] h
 line_last m (x ∷ y ∷ xs) h l =
-    elim (eqb x m) as (λ b. cond b (Some (y ∷ xs)) (after m (y ∷ xs)) ≡ None → cond b ([] ∷ pieces m [] (y ∷ xs)) (onto x (pieces m [] (y ∷ xs))) ≡ cond b [] (x ∷ before m (y ∷ xs)) ∷ []) [ true ↦ λ h. absurd (no_some h) | false ↦ λ h. ap (onto x) (line_last m (y ∷ xs) h (omega arith)) ] h
+    elim (eqb x m) as (λ b. cond b (Some (y ∷ xs)) (after m (y ∷ xs)) ≡ None → cond b ([] ∷ pieces m [] (y ∷ xs)) (onto x (pieces m [] (y ∷ xs))) ≡ cond b [] (x ∷ before m (y ∷ xs)) ∷ []) [ true ↦ λ h. absurd (none-some _ (sym h)) | false ↦ λ h. ap (onto x) (line_last m (y ∷ xs) h (omega arith)) ] h
 
--- the steps of a search for the mark
-pub mark_here : (m : ℕ) (xs : List ℕ) (i : ℕ) → i < length xs → get_or xs i 0 ≡ m → length (before m (drop i xs)) ≡ 0
-mark_here m xs i h e = at_drop_more (λ l. length (before m l)) xs i 0 h ∙ ap (λ b. length (cond b [] (get_or xs i 0 ∷ before m (drop (i + 1) xs)))) (eq-eqb (get_or xs i 0) m e)
+-- the first mark stands where the search for it stops
+before_place : (m : ℕ) (xs : List ℕ) → length (before m xs) ≡ position_or_len (λ b. eqb b m) xs
+before_place m = is_position_or_len (λ l. length (before m l)) (λ b. eqb b m) refl (λ x xs. elim (eqb x m) as (λ b. length (cond b [] (x ∷ before m xs)) ≡ cond b 0 (1 + length (before m xs))) [ true ↦ refl | false ↦ omega arith ])
 
-pub mark_later : (m : ℕ) (xs : List ℕ) (i : ℕ) → i < length xs → (get_or xs i 0 ≡ m → ⊥) → length (before m (drop i xs)) ≡ length (before m (drop (i + 1) xs)) + 1
-mark_later m xs i h e = at_drop_more (λ l. length (before m l)) xs i 0 h ∙ ap (λ b. length (cond b [] (get_or xs i 0 ∷ before m (drop (i + 1) xs)))) (ne_eqb (get_or xs i 0) m e) ∙ omega arith
+-- a mark that is found cuts the list, and where none is found the list is one piece
+pub cut_found : (m : ℕ) (xs : List ℕ) (i : ℕ) → position (λ b. eqb b m) xs ≡ Some i → (take i xs ≡ before m xs) × (after m xs ≡ Some (drop (i + 1) xs))
+cut_found m xs i h =
+    let p = cond_some _ _ _ h in
+    let e : length (before m xs) ≡ i = before_place m xs ∙ p.1 in
+    let l = ltb-true _ _ p.0 in
+    (ap (λ n. take n xs) (sym e) ∙ front_is m xs, back_is m xs (omega (arith, before_place m xs)) ∙ ap (λ n. Some (drop (n + 1) xs)) e)
 
-pub mark_nowhere : (m : ℕ) (xs : List ℕ) (i : ℕ) → length xs ≤ i → length (before m (drop i xs)) ≡ 0
-mark_nowhere m xs i h = at_drop_all (λ l. length (before m l)) xs i h
+pub cut_nowhere : (m : ℕ) (xs : List ℕ) → position (λ b. eqb b m) xs ≡ None → (before m xs ≡ xs) × (after m xs ≡ None)
+cut_nowhere m xs h =
+    ⊎_elim
+    (λ (l : position_or_len (λ b. eqb b m) xs < length xs). absurd (none-some _ (sym h ∙ ap (λ b. cond b (Some (position_or_len (λ b. eqb b m) xs)) None) (lt-ltb _ _ l))))
+    (λ (l : length xs ≤ position_or_len (λ b. eqb b m) xs).
+    let k : length xs ≤ length (before m xs) = omega (arith, before_place m xs) in (all_front m xs k, no_back m xs k))
+    (cases_lt (position_or_len (λ b. eqb b m) xs) (length xs))
 
 -- the reader's next line, and the lines after it
 pub lines_step : (xs : List ℕ) (i : ℕ) → i < length xs → lines (drop i xs) ≡ before 10 (drop i xs) ∷ lines (drop (min (i + length (before 10 (drop i xs)) + 1) (length xs)) xs)

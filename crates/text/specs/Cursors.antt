@@ -1,12 +1,12 @@
 -- What a cursor over lines or fields has yet to give.
-use Rattle.std.specs.Prelude.{ℕ, Bool, true, false, List, [], ◌∷◌, drop, Some, None, Ok, Err, Option, Result}
+use Rattle.std.specs.Prelude.{◌≡◌, ℕ, Bool, true, false, List, [], ◌∷◌, drop, Some, None, Ok, Err, Option, Result}
 use Rattle.std.specs.Borrow.{Bor}
 use Rattle.text.specs.declared.fault.LineFault.{LineFault}
 use Rattle.text.specs.declared.fault.LineFault.TheVariants.{Form}
 use Rattle.text.specs.declared.reader.Reader.{Reader}
 use Rattle.text.specs.declared.line.Fields.{Fields}
 use Rattle.text.specs.Pieces.{lines, fields, before, after}
-use Rattle.text.specs.Fields.{View, key}
+use Rattle.text.specs.Fields.{View, key, number}
 
 -- the lines that a reader has yet to give
 abbrev pub lines_left : Reader → List (List ℕ)
@@ -35,6 +35,16 @@ taken kind n (p ∷ ps) = Ok (kind n p)
 abbrev pub others : List (List ℕ) → List (List ℕ)
 others [] = []
 others (p ∷ ps) = ps
+
+-- taking a field leaves the fields after it, of the same line
+abbrev pub Passed : Fields → Fields → Type 0
+Passed f g = (fields_left g ≡ others (fields_left f)) × (g.line ≡ f.line)
+
+-- the next field as a number, where it is the line's last
+abbrev pub last_number : ℕ → List (List ℕ) → Result View LineFault
+last_number n [] = Err (Form n)
+last_number n (p ∷ []) = Ok (number n p)
+last_number n (p ∷ q ∷ ps) = Err (Form n)
 
 -- a line that is to end here has no field left
 abbrev pub ended : ℕ → List (List ℕ) → Result (Unit {0}) LineFault

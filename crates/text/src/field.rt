@@ -22,9 +22,8 @@ impl<'a> Field<'a> {
         ensures { result ≡ line_of (view self.entry) }
     {
         match self {
-            Field::Key { line, .. } => line,
-            Field::Number { line, .. } => line,
-            Field::Spelling { line, .. } => line,
+            Field::Key { line, .. } | Field::Number { line, .. } | Field::Spelling { line, .. } =>
+                line,
         }
     }
 
@@ -33,9 +32,9 @@ impl<'a> Field<'a> {
         ensures { result.now ≡ bytes_of (view self.entry) }
     {
         match self {
-            Field::Key { bytes, .. } => bytes,
-            Field::Number { bytes, .. } => bytes,
-            Field::Spelling { bytes, .. } => bytes,
+            Field::Key { bytes, .. }
+            | Field::Number { bytes, .. }
+            | Field::Spelling { bytes, .. } => bytes,
         }
     }
 
@@ -43,24 +42,17 @@ impl<'a> Field<'a> {
     pub fn is(self, word: &[u8]) -> bool
         ensures { result ≡ is_word word.now (view self.entry) }
     {
-        match self {
-            Field::Key { bytes, .. } => bytes == word,
-            Field::Number { .. } => false,
-            Field::Spelling { .. } => false,
-        }
+        matches!(self, Field::Key { bytes, .. } if bytes == word)
     }
 
     /// The value of a number field.
     pub fn value(self) -> Result<usize, LineFault>
         ensures { result ≡ value_in (view self.entry) }
     {
+        let fault = LineFault::Number { line: self.line() };
         match self {
-            Field::Key { line, .. } => Err(LineFault::Number { line }),
-            Field::Number { line, bytes } => match number(bytes) {
-                Some(value) => Ok(value),
-                None => Err(LineFault::Number { line }),
-            },
-            Field::Spelling { line, .. } => Err(LineFault::Number { line }),
+            Field::Number { bytes, .. } => number(bytes).ok_or(fault),
+            Field::Key { .. } | Field::Spelling { .. } => Err(fault),
         }
     }
 
@@ -69,15 +61,8 @@ impl<'a> Field<'a> {
         ensures { seen (λ x. x.now) result ≡ spelling_in (view self.entry) }
     {
         match self {
-            Field::Key { line, .. } => Err(LineFault::Spelling { line }),
-            Field::Number { line, .. } => Err(LineFault::Spelling { line }),
-            Field::Spelling { line, bytes } => {
-                if is_name(bytes) {
-                    Ok(bytes)
-                } else {
-                    Err(LineFault::Spelling { line })
-                }
-            }
+            Field::Spelling { bytes, .. } if is_name(bytes) => Ok(bytes),
+            _ => Err(LineFault::Spelling { line: self.line() }),
         }
     }
 }

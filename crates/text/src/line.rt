@@ -1,9 +1,10 @@
 //! Lines and their fields.
-ghost use Rattle.std.specs.Prelude.{◌≡◌, ◌≤◌, length, IfOk};
+ghost use Rattle.std.specs.Prelude.{◌≡◌, ◌≤◌, ◌==◌, length, IfOk};
+ghost use Rattle.std.specs.List.{position};
 ghost use Rattle.std.specs.Option.{option_map};
 ghost use Rattle.text.specs.Pieces.{before, after, whole_text};
 ghost use Rattle.text.specs.Fields.{view, seen, key, number, spelling};
-ghost use Rattle.text.specs.Cursors.{fields_left, next_field, taken, others, ended, none_left, line_parts};
+ghost use Rattle.text.specs.Cursors.{fields_left, next_field, taken, last_number, Passed, ended, none_left, line_parts};
 
 use crate::fault::LineFault;
 use crate::field::Field;
@@ -32,16 +33,11 @@ pub fn whole(text: &[u8], limit: usize) -> Result<(), LineFault>
     Ok(())
 }
 
-/// Where the first mark stands, or the length where there is none.
-fn mark_at(bytes: &[u8], mark: u8) -> usize
-    ensures { result ≡ length (before mark bytes.now) }
+/// Where the first mark stands, if there is one.
+fn mark_at(bytes: &[u8], mark: u8) -> Option<usize>
+    ensures { result ≡ position (λ b. b == mark) bytes.now }
 {
-    for (i, b) in bytes.iter().enumerate() {
-        if *b == mark {
-            return i;
-        }
-    }
-    bytes.len()
+    bytes.iter().position(|b| *b == mark)
 }
 
 /// What stands before the first mark, and what stands after it if there is one.
@@ -49,11 +45,9 @@ pub(crate) fn cut<'a>(bytes: &'a [u8], mark: u8) -> (&'a [u8], Option<&'a [u8]>)
     ensures front { result.0.now ≡ before mark bytes.now }
     ensures back { option_map (λ x. x.now) result.1 ≡ after mark bytes.now }
 {
-    let at = mark_at(bytes, mark);
-    if at < bytes.len() {
-        (&bytes[0..at], Some(&bytes[at + 1..]))
-    } else {
-        (bytes, None)
+    match mark_at(bytes, mark) {
+        Some(at) => (&bytes[..at], Some(&bytes[at + 1..])),
+        None => (bytes, None),
     }
 }
 
@@ -78,8 +72,8 @@ impl<'a> Line<'a> {
         ensures given { seen (λ p. (view p.0, fields_left p.1)) result ≡ line_parts self.entry.number self.entry.bytes.now }
         ensures line { IfOk result (λ p. p.1.line ≡ self.entry.number) }
     {
-        let (bytes, rest) = cut(self.bytes, b'=');
         let line = self.number;
+        let (bytes, rest) = cut(self.bytes, b'=');
         if rest.is_none() {
             return Err(LineFault::Form { line });
         }
@@ -105,8 +99,7 @@ impl<'a> Fields<'a> {
     /// Takes the next field, or refuses the line that ends before it.
     fn take(&mut self) -> Result<&'a [u8], LineFault>
         ensures given { seen (λ x. x.now) result ≡ next_field self.old.line (fields_left self.old) }
-        ensures left { fields_left self.new ≡ others (fields_left self.old) }
-        ensures line { self.new.line ≡ self.old.line }
+        ensures left { Passed self.old self.new }
     {
         let Some(left) = self.rest else {
             return Err(LineFault::Form { line: self.line });
@@ -119,40 +112,28 @@ impl<'a> Fields<'a> {
     /// Takes the next field as a fixed word.
     pub fn key(&mut self) -> Result<Field<'a>, LineFault>
         ensures given { seen view result ≡ taken key self.old.line (fields_left self.old) }
-        ensures left { fields_left self.new ≡ others (fields_left self.old) }
-        ensures line { self.new.line ≡ self.old.line }
+        ensures left { Passed self.old self.new }
     {
-        let bytes = self.take()?;
-        Ok(Field::Key {
-            line: self.line,
-            bytes,
-        })
+        let line = self.line;
+        self.take().map(|bytes| Field::Key { line, bytes })
     }
 
     /// Takes the next field as a number.
     pub fn number(&mut self) -> Result<Field<'a>, LineFault>
         ensures given { seen view result ≡ taken number self.old.line (fields_left self.old) }
-        ensures left { fields_left self.new ≡ others (fields_left self.old) }
-        ensures line { self.new.line ≡ self.old.line }
+        ensures left { Passed self.old self.new }
     {
-        let bytes = self.take()?;
-        Ok(Field::Number {
-            line: self.line,
-            bytes,
-        })
+        let line = self.line;
+        self.take().map(|bytes| Field::Number { line, bytes })
     }
 
     /// Takes the next field as a spelling.
     pub fn spelling(&mut self) -> Result<Field<'a>, LineFault>
         ensures given { seen view result ≡ taken spelling self.old.line (fields_left self.old) }
-        ensures left { fields_left self.new ≡ others (fields_left self.old) }
-        ensures line { self.new.line ≡ self.old.line }
+        ensures left { Passed self.old self.new }
     {
-        let bytes = self.take()?;
-        Ok(Field::Spelling {
-            line: self.line,
-            bytes,
-        })
+        let line = self.line;
+        self.take().map(|bytes| Field::Spelling { line, bytes })
     }
 
     /// Refuses a line that has a field left.
@@ -164,5 +145,14 @@ impl<'a> Fields<'a> {
         } else {
             Err(LineFault::Form { line: self.line })
         }
+    }
+
+    /// Takes the next field as a number, and refuses a line that has another field left.
+    pub fn last_number(mut self) -> Result<Field<'a>, LineFault>
+        ensures { seen view result ≡ last_number self.entry.line (fields_left self.entry) }
+    {
+        let number = self.number()?;
+        self.end()?;
+        Ok(number)
     }
 }

@@ -1,14 +1,8 @@
--- Results and options are one case or the other.
-use Rattle.std.proofs.Common.{◌≡◌, ℕ, Some, None, Ok, Err, Option, Result, arith}
+-- A result is one case or the other.
+use Rattle.std.proofs.Common.{◌≡◌, ℕ, Ok, Err, Result, arith}
 
 pub no_ok : {X E : Type 0} {e : E} {x : X} → ◌≡◌ {A = Result X E} (Err e) (Ok x) → ⊥
 no_ok h = let z : ◌≡◌ {A = ℕ} 0 1 = cc in omega arith
 
-pub no_some : {X : Type 0} {x : X} → ◌≡◌ {A = Option X} None (Some x) → ⊥
-no_some h = let z : ◌≡◌ {A = ℕ} 0 1 = cc in omega arith
-
 pub same_ok : {X E : Type 0} {x y : X} → ◌≡◌ {A = Result X E} (Ok x) (Ok y) → x ≡ y
 same_ok h = cc
-
-pub same_some : {X : Type 0} {x y : X} → ◌≡◌ {A = Option X} (Some x) (Some y) → x ≡ y
-same_some h = cc

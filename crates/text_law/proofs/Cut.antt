@@ -1,16 +1,15 @@
 -- Lines, fields and keys: cut apart and put together again.
 use Rattle.std.proofs.Common.{◌≡◌, ℕ, suc, ◌-◌, ◌<◌, ◌≤◌, Bool, true, false, cond, not, eqb, List, [], ◌∷◌, ◌++◌, length, get_or, Some, None, Ok, Err, Option, sym, refl, ap, ◌∙◌, arith}
-use Rattle.std.specs.List.{AllByRecursion}
+use Rattle.std.specs.List.{list_all, AllByRecursion}
+use Rattle.std.proofs.lemmas.Option.{none-some, same_Some}
 use Rattle.std.proofs.lemmas.Bool.{eq-eqb, eqb-true, and_parts, not-true, true≢false, or_parts, not-false, ltb-false, eqb-false, and_from, not_from_false}
 use Rattle.text.specs.declared.fault.LineFault.{LineFault}
 use Rattle.text.specs.declared.fault.LineFault.TheVariants.{Form}
 use Rattle.text.specs.Pieces.{before, after, onto, pieces, lines, fields, last_byte, whole_text}
 use Rattle.text.specs.Fields.{View, key}
 use Rattle.text.specs.Cursors.{parts_at, line_parts}
-use Rattle.text.specs.Forms.{all_of, belongs}
-use Rattle.text.specs.declared.form.Class.{Class}
 use Rattle.text_law.specs.Writing.{written, commas, keyed, lacks}
-use Rattle.text_law.proofs.Cases.{no_ok, no_some, same_ok}
+use Rattle.text_law.proofs.Cases.{no_ok, same_ok}
 
 -- whatever a list of pieces is, one of them is first
 abbrev pub SomePiece : List (List ℕ) → Type 0
@@ -113,11 +112,11 @@ parts_keyed n k p ps h a =
 
 -- a line with a key is the key and its fields
 before_after_by : (m x : ℕ) (xs rest : List ℕ) (b : Bool) → eqb x m ≡ b → cond b (Some xs) (after m xs) ≡ Some rest → (after m xs ≡ Some rest → xs ≡ before m xs ++ m ∷ rest) → x ∷ xs ≡ cond b [] (x ∷ before m xs) ++ m ∷ rest
-before_after_by m x xs rest true e h g = let s : xs ≡ rest = cc in ap (λ c. c ∷ xs) (eqb-true x m e) ∙ ap (λ l. m ∷ l) s
+before_after_by m x xs rest true e h g = ap (λ c. c ∷ xs) (eqb-true x m e) ∙ ap (λ l. m ∷ l) (same_Some _ _ h)
 before_after_by m x xs rest false e h g = ap (λ l. x ∷ l) (g h)
 
 before_after : (m : ℕ) (xs rest : List ℕ) → after m xs ≡ Some rest → xs ≡ before m xs ++ m ∷ rest
-before_after m [] rest h = absurd (no_some h)
+before_after m [] rest h = absurd (none-some _ h)
 before_after m (x ∷ xs) rest h = before_after_by m x xs rest (eqb x m) refl h (before_after m xs rest)
 
 parts_by : (n : ℕ) (bs : List ℕ) (v : View) (fs : List (List ℕ)) (o : Option (List ℕ)) → after 61 bs ≡ o → parts_at n (before 61 bs) o ≡ Ok (v, fs) → (v ≡ key n (before 61 bs)) × (bs ≡ keyed (before 61 bs) fs)
@@ -140,14 +139,14 @@ whole_said xs limit u h =
     let q = or_parts _ _ p.0 in
     (omega (arith, eqb-false _ _ q.0), ltb-false _ _ q.1, eqb-true _ _ (not-false _ p.1))
 
-lacks_by : (k : Class) (m x : ℕ) (b : Bool) → eqb x m ≡ b → belongs k m ≡ false → belongs k x ≡ true → b ≡ false
-lacks_by k m x true e o h = absurd (true≢false (sym h ∙ ap (belongs k) (eqb-true x m e) ∙ o))
-lacks_by k m x false e o h = refl
+lacks_by : (p : ℕ → Bool) (m x : ℕ) (b : Bool) → eqb x m ≡ b → p m ≡ false → p x ≡ true → b ≡ false
+lacks_by p m x true e o h = absurd (true≢false (sym h ∙ ap p (eqb-true x m e) ∙ o))
+lacks_by p m x false e o h = refl
 
--- all bytes of a class lack a byte outside it
-pub lacks_all : (k : Class) (m : ℕ) (xs : List ℕ) → belongs k m ≡ false → all_of k xs ≡ true → lacks m xs ≡ true
-lacks_all k m [] o h = refl
-lacks_all k m (x ∷ xs) o h =
-    let p = and_parts (belongs k x) (all_of k xs) h in
-    let n : eqb x m ≡ false = lacks_by k m x (eqb x m) refl o p.0 in
-    and_from _ _ (not_from_false (eqb x m) n) (lacks_all k m xs o p.1)
+-- where all bytes pass a test, they lack a byte that does not
+pub lacks_all : (p : ℕ → Bool) (m : ℕ) (xs : List ℕ) → p m ≡ false → list_all p xs ≡ true → lacks m xs ≡ true
+lacks_all p m [] o h = refl
+lacks_all p m (x ∷ xs) o h =
+    let q = and_parts (p x) (list_all p xs) h in
+    let n : eqb x m ≡ false = lacks_by p m x (eqb x m) refl o q.0 in
+    and_from _ _ (not_from_false (eqb x m) n) (lacks_all p m xs o q.1)

@@ -1,26 +1,22 @@
 -- Numbers as they are written.
-use Rattle.std.proofs.Common.{◌≡◌, ℕ, ◌^◌, ◌<◌, ◌≤◌, Bool, true, false, cond, not, ◌||◌, eqb, List, length, get_or, Some, None, decimal, sym, refl, ap, ◌∙◌, ⊎_elim, arith, rules}
+use Rattle.std.proofs.Common.{◌≡◌, ℕ, ◌^◌, ◌<◌, ◌≤◌, true, false, cond, not, ◌||◌, eqb, List, length, get_or, Some, None, decimal, sym, ap, ◌∙◌, ⊎_elim, arith, rules}
+use Rattle.std.specs.List.{list_all}
+use Rattle.std.proofs.lemmas.Option.{cond_some}
 use Rattle.std.proofs.lemmas.Str.Parse.{IsNumeralModel, numerals_by_fold, digits_value_short}
 use Rattle.std.proofs.lemmas.Fmt.{digits_decimal, digits_value-decimal, decimal-digits_value, decimal_nonempty, length-decimal-le, first_decimal, decimal_digit}
 use Rattle.std.proofs.lemmas.Bool.{and_parts, and_from, le-leb, leb-true, or_cases, eqb-true, eq-eqb, ne_eqb, or_left, or_right, not-true, not_from_false, eqb-false, cases_eq}
 use Rattle.text_law.specs.Writing.{lacks}
-use Rattle.text_law.proofs.Cases.{no_some, same_some}
 use Rattle.text_law.proofs.Cut.{lacks_all}
-use Rattle.text.specs.Forms.{digit, all_of, decimal_after, is_number, number_of}
-use Rattle.text.specs.declared.form.Class.TheVariants.{Digit}
+use Rattle.text.specs.Forms.{digit, decimal_after, is_number, number_of}
 
 abbrev Digital : List ℕ → Type 0
-Digital ds = all_of Digit ds ≡ true
+Digital ds = list_all digit ds ≡ true
 
 own : IsNumeralModel Digital (decimal_after 0)
 own = numerals_by_fold Digital (search rules) decimal_after (search rules)
 
-some_by : (b : Bool) (x v : ℕ) → cond b (Some x) None ≡ Some v → (b ≡ true) × (x ≡ v)
-some_by true x v h = (refl, same_some h)
-some_by false x v h = absurd (no_some h)
-
 -- the parts of a number's form
-formed : (bs : List ℕ) → is_number bs ≡ true → (0 < length bs) × (length bs ≤ 9) × (get_or bs 0 0 ≡ 48 → length bs ≡ 1) × (all_of Digit bs ≡ true)
+formed : (bs : List ℕ) → is_number bs ≡ true → (0 < length bs) × (length bs ≤ 9) × (get_or bs 0 0 ≡ 48 → length bs ≡ 1) × (list_all digit bs ≡ true)
 formed bs h =
     let p = and_parts _ _ h in
     let q = and_parts _ _ p.0 in
@@ -31,7 +27,7 @@ formed bs h =
 -- a number is written in one way
 pub decimal_said : (bs : List ℕ) (v : ℕ) → number_of bs ≡ Some v → (bs ≡ decimal v) × (v < 1000000000)
 decimal_said bs v h =
-    let e = some_by (is_number bs) (decimal_after 0 bs) v h in
+    let e = cond_some (is_number bs) (decimal_after 0 bs) v h in
     let f = formed bs e.0 in
     let small : decimal_after 0 bs < 10 ^ 9 = digits_value_short own bs 9 f.3 f.1 in
     let w : decimal_after 0 bs ≡ v = e.1 in
@@ -56,4 +52,4 @@ number_decimal v h =
 
 -- it holds digits alone
 pub lacks_decimal : (m v : ℕ) → v < 1000000000 → digit m ≡ false → lacks m (decimal v) ≡ true
-lacks_decimal m v h o = lacks_all Digit m (decimal v) o (digits_decimal own v (omega arith))
+lacks_decimal m v h o = lacks_all digit m (decimal v) o (digits_decimal own v (omega arith))

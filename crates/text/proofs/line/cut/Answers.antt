@@ -1,23 +1,17 @@
-use Rattle.std.proofs.Common.{◌+◌, ◌<◌, ◌≤◌, length, drop, Some, sym, ap, ◌∙◌, arith}
-use native.Mathlib.Nat.{sub-zero}
+use Rattle.std.proofs.Common.{◌+◌, Some, sym, ap, ◌∙◌}
 use Rattle.std.proofs.lemmas.List.{take_rest}
-use Rattle.text.specs.Pieces.{before}
-use Rattle.text.proofs.Cuts.{front_is, back_is, no_back, all_front}
+use Rattle.text.proofs.Cuts.{cut_found, cut_nowhere}
 use Rattle.text.proofs.line.cut.Goals as goal
 
-pub returns-then-at-bytes : goal.returns-then-at-bytes
-returns-then-at-bytes c =
-    let xs = c.args.bytes.now in
-    let m = c.args.mark in
-    let h : length (before m xs) < length xs = omega arith in
-    record {
-      front = simp (sub-zero, c.mark_at-at.ensures) (front_is m xs);
-      back = ap (λ l. Some l) (take_rest xs (c.mark_at-at.result + 1)) ∙ ap (λ n. Some (drop (n + 1) xs)) c.mark_at-at.ensures ∙ sym (back_is m xs h);
-    }
+pub returns-in-Some-clause-front : goal.returns-in-Some-clause-front
+returns-in-Some-clause-front c = (cut_found c.args.mark c.args.bytes.now c.in-Some.at (sym c.mark_at.ensures ∙ c.in-Some.is)).0
 
-pub returns-else-at-bytes : goal.returns-else-at-bytes
-returns-else-at-bytes c =
-    let xs = c.args.bytes.now in
-    let m = c.args.mark in
-    let h : length xs ≤ length (before m xs) = omega arith in
-    record { front = sym (all_front m xs h); back = sym (no_back m xs h) }
+pub returns-in-Some-clause-back : goal.returns-in-Some-clause-back
+returns-in-Some-clause-back c =
+    ap Some (take_rest c.args.bytes.now (c.in-Some.at + 1)) ∙ sym (cut_found c.args.mark c.args.bytes.now c.in-Some.at (sym c.mark_at.ensures ∙ c.in-Some.is)).1
+
+pub returns-in-None-clause-front : goal.returns-in-None-clause-front
+returns-in-None-clause-front c = sym (cut_nowhere c.args.mark c.args.bytes.now (sym c.mark_at.ensures ∙ c.in-None.is)).0
+
+pub returns-in-None-clause-back : goal.returns-in-None-clause-back
+returns-in-None-clause-back c = sym (cut_nowhere c.args.mark c.args.bytes.now (sym c.mark_at.ensures ∙ c.in-None.is)).1
