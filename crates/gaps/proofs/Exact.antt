@@ -9,11 +9,12 @@ use Rattle.theory.specs.Inequality.{Pair, derivative, derivative_count, pairs, w
 use Rattle.meaning.proofs.Members.{same_test}
 use Rattle.inequality.proofs.Lists.{some_found, some_from, some_none, any_found, any_from}
 use Rattle.inequality.proofs.Sides.{either_or_found, either_or_from}
+use Rattle.std.specs.Option.{option_or}
 use Rattle.gaps.specs.Shows.{unshown, gap}
-use Rattle.gaps.specs.Gaps.{either, first, known, subset_gap, subset_count, derivative_gap, name_gap, first_gap}
+use Rattle.gaps.specs.Gaps.{first, known, subset_gap, subset_count, derivative_gap, name_gap, first_gap}
 
 -- there is a first answer when there is one at all
-is_either : {X : Type 0} (a b : Option X) → is_some (either a b) ≡ (is_some a || is_some b)
+is_either : {X : Type 0} (a b : Option X) → is_some (option_or a b) ≡ (is_some a || is_some b)
 is_either (Some x) b = refl
 is_either None b = refl
 

@@ -1,20 +1,16 @@
 -- The first gap of a row, by its place among the either-ors.
 use Rattle.std.specs.Prelude.{ℕ, zero, suc, ◌^◌, Bool, cond, List, length, take, Some, None, Option}
+use Rattle.std.specs.Option.{option_or}
 use Rattle.model.specs.declared.rows.Row.{Row}
 use Rattle.theory.specs.Machine.{Machine}
 use Rattle.theory.specs.Inequality.{Pair, derivative, derivative_count, pairs, either_or}
 use Rattle.gaps.specs.declared.place.Place.{Place}
 use Rattle.gaps.specs.Shows.{unshown}
 
--- the first of two answers
-abbrev pub either : {X : Type 0} → Option X → Option X → Option X
-either (Some x) o = Some x
-either None o = o
-
 -- the first answer among f 0, f 1, up to f (n - 1)
 abbrev pub first : {X : Type 0} → ℕ → (ℕ → Option X) → Option X
 first zero f = None
-first (suc n) f = either (first n f) (f n)
+first (suc n) f = option_or (first n f) (f n)
 
 -- the pairs that are looked at: the first eight, which are all of them unless the row is wide
 unfoldable pub known : Machine → ℕ → ℕ → List Pair

@@ -1,5 +1,6 @@
 -- When a sheet shows its claim, and the first fault where it does not.
 use Rattle.std.specs.Prelude.{ℕ, ◌+◌, Bool, false, cond, not, ◌&&◌, List, [], ◌∷◌, Some, None, Ok, Err, Option, Result}
+use Rattle.std.specs.Option.{option_or}
 use Rattle.model.specs.declared.rows.Row.{Row}
 use Rattle.model.specs.declared.rows.Item.{Item}
 use Rattle.model.specs.Sets.{insert}
@@ -18,15 +19,10 @@ row_fault m is_shown n r =
     (cond (wide m r) (Some (Wide n))
     (cond (gap m is_shown r) (Some (Gap n)) None))
 
--- the first of two faults
-abbrev pub or_else : Option SheetFault → Option SheetFault → Option SheetFault
-or_else (Some f) g = Some f
-or_else None g = g
-
 -- the first fault of rows that stand from line n on
 abbrev pub first_fault : Machine → (Row → Bool) → ℕ → List Row → Option SheetFault
 first_fault m is_shown n [] = None
-first_fault m is_shown n (r ∷ rows) = or_else (row_fault m is_shown n r) (first_fault m is_shown (n + 1) rows)
+first_fault m is_shown n (r ∷ rows) = option_or (row_fault m is_shown n r) (first_fault m is_shown (n + 1) rows)
 
 -- row 0 is the root
 abbrev pub rooted : ℕ → ℕ → List Row → Bool

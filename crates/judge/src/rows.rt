@@ -2,15 +2,14 @@
 ghost use Rattle.std.specs.Prelude.{◌≡◌, length, if◌then◌else◌, Err, nat_lt};
 ghost use Rattle.ledger.specs.Settled.{at};
 ghost use Rattle.sides.specs.View.{view};
-ghost use Rattle.gaps.specs.Shows.{shown as is_shown};
+ghost use Rattle.gaps.specs.Grounds.{shown_on};
 ghost use Rattle.judge.specs.Judgement.{row_fault, first_fault, rooted, included_fault, excluded_fault, refusal};
 ghost use Rattle.judge.specs.Faults.{no_memory};
 
+use crate::claim::Claim;
 use crate::fault::SheetFault;
-use book::Same;
 use gaps::gap::find_gap;
 use gaps::grounds::Grounds;
-use ledger::table::Ledger;
 use member::hedge_states;
 use model::machine::Machine;
 use model::rows::{Item, Row};
@@ -21,6 +20,7 @@ use sides::nullable::is_inconsistent;
 use sides::wide::is_wide;
 
 /// Refuses the row at a line if it is inconsistent, wide or has a gap.
+#[tactic(auto, unfolding(crate::specs::Judgement::row_fault))]
 fn judge_row(
     machine: &Machine,
     covers: &Covers,
@@ -28,7 +28,7 @@ fn judge_row(
     line: usize,
     row: &Row,
 ) -> Result<(), SheetFault>
-    ensures { result ≡ refusal (row_fault (view machine.now covers.now) (is_shown (at grounds.now.ledger.now) grounds.now.rules grounds.now.rows.now) line row.now) }
+    ensures { result ≡ refusal (row_fault (view machine.now covers.now) (shown_on grounds.now) line row.now) }
 {
     if is_inconsistent(machine, covers, row) {
         return Err(SheetFault::Inconsistent { line });
@@ -43,69 +43,55 @@ fn judge_row(
 }
 
 /// Refuses the first row that is at fault; row 0 stands at line 3.
+#[tactic(auto, using(crate::proofs::Lines::rows_more, crate::proofs::Lines::rows_here, crate::proofs::Lines::rows_past))]
 fn judge_rows(machine: &Machine, covers: &Covers, grounds: &Grounds<'_>) -> Result<(), SheetFault>
-    ensures { result ≡ refusal (first_fault (view machine.now covers.now) (is_shown (at grounds.now.ledger.now) grounds.now.rules grounds.now.rows.now) 3 grounds.now.rows.now) }
+    ensures { result ≡ refusal (first_fault (view machine.now covers.now) (shown_on grounds.now) 3 grounds.now.rows.now) }
 {
-    let rows = grounds.rows;
-    for i in 0..rows.len() {
-        judge_row(machine, covers, grounds, i + 3, &rows[i])?;
+    for (i, row) in grounds.rows.iter().enumerate() {
+        judge_row(machine, covers, grounds, i + 3, row)?;
     }
     Ok(())
 }
 
 /// Whether row 0 is the root.
-fn is_rooted(left: usize, right: usize, rows: &[Row]) -> bool
-    ensures { result ≡ rooted left right rows.now }
+fn is_rooted(claim: Claim, rows: &[Row]) -> bool
+    ensures { result ≡ rooted claim.left claim.right rows.now }
 {
-    let [first, ..] = rows else {
-        return false;
-    };
-    let root = Row {
-        left,
-        right: StateSet::empty().with(right),
-    };
-    first.is_same(&root)
+    rows.first() == Some(&claim.root())
 }
 
-/// Judges the rows of an included sheet on the rules `left` and `right`.
-pub fn judge_included<'a>(
+/// Judges the rows of an included sheet.
+#[tactic(auto, unfolding(crate::specs::Judgement::included_fault))]
+pub fn judge_included(
     machine: &Machine,
     covers: &Covers,
-    ledger: &'a Ledger,
-    rules: usize,
-    left: usize,
-    right: usize,
-    rows: &'a [Row],
+    grounds: &Grounds<'_>,
+    claim: Claim,
 ) -> Result<(), SheetFault>
-    ensures { result ≡ refusal (included_fault (view machine.now covers.now) (at ledger.now) rules left right rows.now) }
+    ensures { result ≡ refusal (included_fault (view machine.now covers.now) (at grounds.now.ledger.now) grounds.now.rules claim.left claim.right grounds.now.rows.now) }
 {
-    if !is_rooted(left, right, rows) {
+    if !is_rooted(claim, grounds.rows) {
         return Err(SheetFault::Root);
     }
-    let grounds = Grounds::new(rows, ledger, rules);
-    judge_rows(machine, covers, &grounds)
+    judge_rows(machine, covers, grounds)
 }
 
-/// Judges the items of an excluded sheet on the rules `left` and `right`. `sets` is working memory,
-/// one set more than there are items; where it is shorter the items have no room.
+/// Judges the items of an excluded sheet. `sets` is working memory, one set more than there are
+/// items; where it is shorter the items have no room.
+#[tactic(auto, unfolding(crate::specs::Judgement::excluded_fault, meaning::specs::Tables::has_spelled, member::specs::Sets::spelled_set))]
 pub fn judge_excluded(
     machine: &Machine,
     covers: &Covers,
     sets: &mut [StateSet],
-    left: usize,
-    right: usize,
+    claim: Claim,
     items: &[Item],
 ) -> Result<(), SheetFault>
-    ensures { result ≡ (if nat_lt (length items.now) (length sets.old) then refusal (excluded_fault (view machine.now covers.now) left right items.now) else Err no_memory) }
+    ensures { result ≡ (if nat_lt (length items.now) (length sets.old) then refusal (excluded_fault (view machine.now covers.now) claim.left claim.right items.now) else Err no_memory) }
 {
-    match hedge_states(machine, covers, items, sets) {
-        None => Err(SheetFault::Call(CallFault::Room { line: 0 })),
-        Some(set) => {
-            if set.contains(left) & !set.contains(right) {
-                Ok(())
-            } else {
-                Err(SheetFault::Witness)
-            }
-        }
+    let set = hedge_states(machine, covers, items, sets).ok_or(CallFault::Room { line: 0 })?;
+    if set.contains(claim.left) && !set.contains(claim.right) {
+        Ok(())
+    } else {
+        Err(SheetFault::Witness)
     }
 }

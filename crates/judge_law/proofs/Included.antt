@@ -1,6 +1,7 @@
 -- An accepted included sheet is a closed table, and a closed table that leans on nothing is accepted.
 use Rattle.std.proofs.Common.{◌≡◌, ℕ, ◌+◌, Bool, true, false, cond, not, eqb, ltb, ◌⊎◌, List, [], ◌∷◌, Some, None, Option, sym, refl, ap, ◌∙◌, subst, inl, inr, ⊎_elim}
 use Rattle.std.proofs.lemmas.Bool.{and_parts, and_cases, and_left, and_right, or_cases, or_left, cond-true, cond-false, not-false, not_from_true, eqb-true, false≢true}
+use Rattle.std.specs.Option.{option_or}
 use Rattle.model.specs.declared.rows.Row.{Row}
 use Rattle.model.specs.Sets.{insert}
 use Rattle.ledger.specs.Settled.{Settled}
@@ -15,11 +16,11 @@ use Rattle.inequality.proofs.Truth.{closed_true}
 use Rattle.judge.specs.declared.fault.SheetFault.{SheetFault}
 use Rattle.judge.specs.declared.fault.SheetFault.TheVariants.{Inconsistent, Wide, Gap, Root}
 use Rattle.gaps.specs.Shows.{included?, leans_on, leans, shown, unshown, gap}
-use Rattle.judge.specs.Judgement.{row_fault, or_else, first_fault, rooted, included_fault}
+use Rattle.judge.specs.Judgement.{row_fault, first_fault, rooted, included_fault}
 use Rattle.judge_law.specs.Laws.{SettledTrue, RowsTrue, IncludedTrue, IncludedExchange}
 
 -- nothing is at fault where the first of two is not and the second is not
-both_none : (f g : Option SheetFault) → or_else f g ≡ None → (f ≡ None) × (g ≡ None)
+both_none : (f g : Option SheetFault) → option_or f g ≡ None → (f ≡ None) × (g ≡ None)
 both_none (Some x) g e = (e, cc)
 both_none None g e = (refl, e)
 
@@ -56,7 +57,7 @@ rows_clear : (m : Machine) (S : Row → Bool) (n : ℕ) (rows : List Row) →
 rows_clear m S n [] all = refl
 rows_clear m S n (r ∷ rows) all =
     let one = all r here in
-    ap (λ o. or_else o (first_fault m S (n + 1) rows)) (row_clear m S n r one.0 one.1 one.2)
+    ap (λ o. option_or o (first_fault m S (n + 1) rows)) (row_clear m S n r one.0 one.1 one.2)
     ∙ rows_clear m S (n + 1) rows (λ q mem. all q (there mem))
 
 -- a side that is shown is a row, or leans on the register
