@@ -1,10 +1,10 @@
 -- The steps of the search for a gap.
-use Rattle.std.proofs.Common.{◌≡◌, ℕ, ◌-◌, ◌^◌, ◌<◌, Bool, true, false, cond, List, length, get_or, take, Some, None, sym, ap, ◌∙◌, ap₂, arith}
+use Rattle.std.proofs.Common.{◌≡◌, ℕ, ◌^◌, ◌<◌, Bool, true, false, cond, List, length, get_or, take, Some, None, sym, ap, ◌∙◌, ap₂}
 use Rattle.std.proofs.lemmas.Bool.{cond-true, cond-false}
 use Rattle.model.specs.declared.rows.Row.{Row}
 use Rattle.model.specs.Machine.{Derivative, derivatives_at}
 use Rattle.theory.specs.Machine.{Machine}
-use Rattle.theory.specs.Inequality.{Pair, no_derivative, derivative, derivative_count, either_or}
+use Rattle.theory.specs.Inequality.{Pair, no_derivative, derivative, derivative_count, pairs, either_or}
 use Rattle.sides.specs.Steps.{labelled_by}
 use Rattle.inequality.proofs.Lists.{some_none}
 use Rattle.gaps.specs.declared.place.Place.{Place}
@@ -15,9 +15,10 @@ use Rattle.gaps.proofs.First.{first_none, first_at, first_end}
 abbrev place : ℕ → ℕ → ℕ → Place
 place t i k = record { name = t; derivative = i; subset = k }
 
--- the first n records are the pairs that are looked at
-pub cut_known : (records ps : List Pair) (n : ℕ) → take n records ≡ ps → take (n - 0) records ≡ ps
-cut_known records ps n is = ap (λ k. take k records) (omega arith) ∙ is
+-- the pairs that are looked at
+pub known_pairs : (m : Machine) (t s : ℕ) {items ps : List Pair} → items ≡ take 8 (pairs m t s) → ps ≡ items → ps ≡ known m t s
+unfolding known
+known_pairs m t s is same = same ∙ is
 
 -- what a test of the two sides says of the subset k
 told : (m : Machine) (S : Row → Bool) (r : Row) (t i k : ℕ) (ds : List Derivative) (ps : List Pair) (b : Bool) →

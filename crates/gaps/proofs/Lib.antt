@@ -1,5 +1,3 @@
-mod Any
-mod Put
 mod First
 mod Gaps
 mod Exact

@@ -1,7 +1,7 @@
 //! Judges the rows or the items of a sheet.
 ghost use Rattle.std.specs.Prelude.{◌≡◌, length, if◌then◌else◌, Err, nat_lt};
 ghost use Rattle.ledger.specs.Settled.{at};
-ghost use Rattle.sides.specs.View.{view};
+ghost use Rattle.sides.specs.View.{seen};
 ghost use Rattle.gaps.specs.Grounds.{shown_on};
 ghost use Rattle.judge.specs.Judgement.{row_fault, first_fault, rooted, included_fault, excluded_fault, refusal};
 ghost use Rattle.judge.specs.Faults.{no_memory};
@@ -11,32 +11,28 @@ use crate::fault::SheetFault;
 use gaps::gap::find_gap;
 use gaps::grounds::Grounds;
 use member::hedge_states;
-use model::machine::Machine;
 use model::rows::{Item, Row};
 use model::sets::StateSet;
 use records::fault::CallFault;
-use sides::covers::Covers;
-use sides::nullable::is_inconsistent;
-use sides::wide::is_wide;
+use sides::setting::Setting;
 
 /// Refuses the row at a line if it is inconsistent, wide or has a gap.
 #[tactic(auto, unfolding(crate::specs::Judgement::row_fault))]
 fn judge_row(
-    machine: &Machine,
-    covers: &Covers,
+    setting: &Setting<'_>,
     grounds: &Grounds<'_>,
     line: usize,
     row: &Row,
 ) -> Result<(), SheetFault>
-    ensures { result ≡ refusal (row_fault (view machine.now covers.now) (shown_on grounds.now) line row.now) }
+    ensures { result ≡ refusal (row_fault (seen setting.now) (shown_on grounds.now) line row.now) }
 {
-    if is_inconsistent(machine, covers, row) {
+    if setting.is_inconsistent(row) {
         return Err(SheetFault::Inconsistent { line });
     }
-    if is_wide(machine, covers, row) {
+    if setting.is_wide(row) {
         return Err(SheetFault::Wide { line });
     }
-    if find_gap(machine, covers, grounds, row).is_some() {
+    if find_gap(setting, grounds, row).is_some() {
         return Err(SheetFault::Gap { line });
     }
     Ok(())
@@ -44,11 +40,11 @@ fn judge_row(
 
 /// Refuses the first row that is at fault; row 0 stands at line 3.
 #[tactic(auto, using(crate::proofs::Lines::rows_more, crate::proofs::Lines::rows_here, crate::proofs::Lines::rows_past))]
-fn judge_rows(machine: &Machine, covers: &Covers, grounds: &Grounds<'_>) -> Result<(), SheetFault>
-    ensures { result ≡ refusal (first_fault (view machine.now covers.now) (shown_on grounds.now) 3 grounds.now.rows.now) }
+fn judge_rows(setting: &Setting<'_>, grounds: &Grounds<'_>) -> Result<(), SheetFault>
+    ensures { result ≡ refusal (first_fault (seen setting.now) (shown_on grounds.now) 3 grounds.now.rows.now) }
 {
     for (i, row) in grounds.rows.iter().enumerate() {
-        judge_row(machine, covers, grounds, i + 3, row)?;
+        judge_row(setting, grounds, i + 3, row)?;
     }
     Ok(())
 }
@@ -63,32 +59,30 @@ fn is_rooted(claim: Claim, rows: &[Row]) -> bool
 /// Judges the rows of an included sheet.
 #[tactic(auto, unfolding(crate::specs::Judgement::included_fault))]
 pub fn judge_included(
-    machine: &Machine,
-    covers: &Covers,
+    setting: &Setting<'_>,
     grounds: &Grounds<'_>,
     claim: Claim,
 ) -> Result<(), SheetFault>
-    ensures { result ≡ refusal (included_fault (view machine.now covers.now) (at grounds.now.ledger.now) grounds.now.rules claim.left claim.right grounds.now.rows.now) }
+    ensures { result ≡ refusal (included_fault (seen setting.now) (at grounds.now.ledger.now) grounds.now.rules claim.left claim.right grounds.now.rows.now) }
 {
     if !is_rooted(claim, grounds.rows) {
         return Err(SheetFault::Root);
     }
-    judge_rows(machine, covers, grounds)
+    judge_rows(setting, grounds)
 }
 
 /// Judges the items of an excluded sheet. `sets` is working memory, one set more than there are
 /// items; where it is shorter the items have no room.
 #[tactic(auto, unfolding(crate::specs::Judgement::excluded_fault, meaning::specs::Tables::has_spelled, member::specs::Sets::spelled_set))]
 pub fn judge_excluded(
-    machine: &Machine,
-    covers: &Covers,
+    setting: &Setting<'_>,
     sets: &mut [StateSet],
     claim: Claim,
     items: &[Item],
 ) -> Result<(), SheetFault>
-    ensures { result ≡ (if nat_lt (length items.now) (length sets.old) then refusal (excluded_fault (view machine.now covers.now) claim.left claim.right items.now) else Err no_memory) }
+    ensures { result ≡ (if nat_lt (length items.now) (length sets.old) then refusal (excluded_fault (seen setting.now) claim.left claim.right items.now) else Err no_memory) }
 {
-    let set = hedge_states(machine, covers, items, sets).ok_or(CallFault::Room { line: 0 })?;
+    let set = hedge_states(setting, items, sets).ok_or(CallFault::Room { line: 0 })?;
     if set.contains(claim.left) && !set.contains(claim.right) {
         Ok(())
     } else {

@@ -3,14 +3,13 @@
 #![tactic(auto)]
 
 ghost use Rattle.std.specs.Prelude.{◌≡◌, ◌+◌, ◌<◌, ◌≤◌, length, take, if◌then◌else◌, Some, None, nat_lt, slice_index, slice_index_or};
-ghost use Rattle.sides.specs.View.{view};
+ghost use Rattle.sides.specs.View.{seen};
 ghost use Rattle.meaning.specs.Tables.{nullable_set, takes, gather, state_sets, has_spelled};
 ghost use Rattle.member.specs.Sets.{Gathered, bits_of, spelled_set};
 
-use model::machine::Machine;
 use model::rows::Item;
 use model::sets::StateSet;
-use sides::covers::Covers;
+use sides::setting::Setting;
 
 /// The set of the states below `count` that pass a test.
 fn gathered<P: Fn(usize) -> bool>(count: usize, passes: P) -> StateSet
@@ -29,42 +28,35 @@ fn gathered<P: Fn(usize) -> bool>(count: usize, passes: P) -> StateSet
 /// Whether some derivative of the state q has a label that covers t, a content in `inside` and a
 /// rest in `following`.
 fn takes_item(
-    machine: &Machine,
-    covers: &Covers,
+    setting: &Setting<'_>,
     t: usize,
     inside: StateSet,
     following: StateSet,
     q: usize,
 ) -> bool
-    ensures { result ≡ takes (view machine.now covers.now) t inside.bits following.bits q }
+    ensures { result ≡ takes (seen setting.now) t inside.bits following.bits q }
 {
-    machine.derivatives(q).iter().any(|d| covers.get(d.0, t)
+    setting.machine.derivatives(q).iter().any(|d| setting.covers.get(d.0, t)
         && inside.contains(d.1)
         && following.contains(d.2))
 }
 
 /// The states that have an item t with a hedge inside that the states of `inside` have, before one
 /// that the states of `following` have.
-fn item_set(
-    machine: &Machine,
-    covers: &Covers,
-    t: usize,
-    inside: StateSet,
-    following: StateSet,
-) -> StateSet
-    ensures { result.bits ≡ gather (length (view machine.now covers.now).states) (takes (view machine.now covers.now) t inside.bits following.bits) }
+fn item_set(setting: &Setting<'_>, t: usize, inside: StateSet, following: StateSet) -> StateSet
+    ensures { result.bits ≡ gather (length (seen setting.now).states) (takes (seen setting.now) t inside.bits following.bits) }
 {
-    gathered(machine.count(), |q| {
-        takes_item(machine, covers, t, inside, following, q)
+    gathered(setting.machine.count(), |q| {
+        takes_item(setting, t, inside, following, q)
     })
 }
 
 /// The states that have the empty hedge.
 #[tactic(auto, unfolding(meaning::specs::Tables::nullable_set))]
-fn empty_set(machine: &Machine, covers: &Covers) -> StateSet
-    ensures { result.bits ≡ nullable_set (view machine.now covers.now) }
+fn empty_set(setting: &Setting<'_>) -> StateSet
+    ensures { result.bits ≡ nullable_set (seen setting.now) }
 {
-    gathered(machine.count(), |q| machine.is_nullable(q))
+    gathered(setting.machine.count(), |q| setting.machine.is_nullable(q))
 }
 
 /// The set of the hedge number k; a number without one stands for the empty hedge, whose set is the
@@ -80,33 +72,32 @@ fn set_of(sets: &[StateSet], k: usize) -> StateSet
 }
 
 /// Puts the set of each hedge number into the table: 0 is the empty hedge, k begins at item k.
-fn fill(machine: &Machine, covers: &Covers, items: &[Item], sets: &mut [StateSet])
+fn fill(setting: &Setting<'_>, items: &[Item], sets: &mut [StateSet])
     requires { length items.now < length sets.old }
-    ensures table { take (length items.now + 1) (bits_of sets.new) ≡ state_sets (view machine.now covers.now) items.now }
+    ensures table { take (length items.now + 1) (bits_of sets.new) ≡ state_sets (seen setting.now) items.now }
 {
-    sets[0] = empty_set(machine, covers);
+    sets[0] = empty_set(setting);
     for (k, item) in items.iter().enumerate() {
         let known = &sets[..=k];
         let inside = set_of(known, item.child);
         let following = set_of(known, item.next);
-        sets[k + 1] = item_set(machine, covers, item.name, inside, following);
+        sets[k + 1] = item_set(setting, item.name, inside, following);
     }
 }
 
 /// The states that have the hedge that the items spell; `sets` is working memory, one set more than
 /// there are items. Nothing where it is shorter.
 pub fn hedge_states(
-    machine: &Machine,
-    covers: &Covers,
+    setting: &Setting<'_>,
     items: &[Item],
     sets: &mut [StateSet],
 ) -> Option<StateSet>
-    ensures { result ≡ (if nat_lt (length items.now) (length sets.old) then Some (spelled_set (view machine.now covers.now) items.now) else None) }
+    ensures { result ≡ (if nat_lt (length items.now) (length sets.old) then Some (spelled_set (seen setting.now) items.now) else None) }
 {
     if items.len() >= sets.len() {
         return None;
     }
-    fill(machine, covers, items, sets);
+    fill(setting, items, sets);
     Some(sets[items.len()])
 }
 
@@ -114,13 +105,12 @@ pub fn hedge_states(
 /// than there are items. Nothing where it is shorter.
 #[tactic(auto, unfolding(meaning::specs::Tables::has_spelled, crate::specs::Sets::spelled_set))]
 pub fn has_hedge(
-    machine: &Machine,
-    covers: &Covers,
+    setting: &Setting<'_>,
     items: &[Item],
     sets: &mut [StateSet],
     q: usize,
 ) -> Option<bool>
-    ensures { result ≡ (if nat_lt (length items.now) (length sets.old) then Some (has_spelled (view machine.now covers.now) items.now q) else None) }
+    ensures { result ≡ (if nat_lt (length items.now) (length sets.old) then Some (has_spelled (seen setting.now) items.now q) else None) }
 {
-    hedge_states(machine, covers, items, sets).map(|set| set.contains(q))
+    hedge_states(setting, items, sets).map(|set| set.contains(q))
 }

@@ -77,3 +77,9 @@ pub gathered : (b a xs : List Pair) (answer : Bool) → b ≡ [] → Gathers b a
 gathered b a xs answer e all =
     let fed : Fed same_pair 8 [] a xs answer = subst (λ l. Fed same_pair 8 l a xs answer) e (all (omega (arith, ap length e))) in
     (fed.fits, λ is. fed.held ∙ take_all 8 _ (leb-true _ 8 (sym fed.fits ∙ is)))
+
+-- the first eight of them, whether or not there are more
+pub first_gathered : (b a xs : List Pair) (answer : Bool) → b ≡ [] → Gathers b a xs answer → a ≡ take 8 (entered same_pair [] xs)
+first_gathered b a xs answer e all =
+    let fed : Fed same_pair 8 [] a xs answer = subst (λ l. Fed same_pair 8 l a xs answer) e (all (omega (arith, ap length e))) in
+    fed.held

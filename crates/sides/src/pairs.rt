@@ -1,5 +1,5 @@
 // The distinct pairs of content and rest on the right of an inequality under a name.
-ghost use Rattle.std.specs.Prelude.{◌≡◌, length, IfSome, nat_le};
+ghost use Rattle.std.specs.Prelude.{◌≡◌, length, take, IfSome, nat_le};
 ghost use Rattle.std.specs.Option.{is_some};
 ghost use Rattle.std.specs.Result.{is_ok};
 ghost use Rattle.theory.specs.Inequality.{pairs_of, all_pairs, pairs as distinct_pairs};
@@ -78,5 +78,14 @@ impl Setting<'_> {
         let mut pairs = Pairs::new();
         self.enter_set(t, set, &mut pairs).ok()?;
         Some(pairs)
+    }
+
+    // The first eight distinct pairs of the set under the name t; all of them, unless there are more.
+    pub fn first_pairs(&self, t: usize, set: &StateSet) -> Pairs
+        ensures { result.items ≡ take 8 (distinct_pairs (seen self.now) t set.now.bits) }
+    {
+        let mut pairs = Pairs::new();
+        let _ = self.enter_set(t, set, &mut pairs);
+        pairs
     }
 }
