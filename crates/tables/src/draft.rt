@@ -39,12 +39,8 @@ pub enum Entry<'a> {
 fn set_head(names: &mut Vec<Name>, name: usize, head: usize)
     ensures { names.new.items ≡ headed names.old.items name head }
 {
-    if name < names.len() {
-        let kind = names[name].kind;
-        names[name] = Name {
-            kind,
-            head: Some(head),
-        };
+    if let Some(name) = names.get_mut(name) {
+        name.head = Some(head);
     }
 }
 

@@ -6,11 +6,11 @@ ghost use Rattle.tables.specs.Plain.{plain, sketch, fact};
 ghost use Rattle.tables.specs.Judge.{begin_line, name_line, under_line, node_line, rule_line, end_line, keyed_line, judged};
 
 use crate::args::take_numbers;
-use crate::checks::{check_form, check_fresh, check_place, check_room, may_be_node, may_get_head};
+use crate::checks::{holds, may_be_node, may_get_head};
 use crate::draft::{Draft, Entry};
 use crate::table::Tables;
 use crate::words::{Arity, Key, key_in, kind_in, shape_in, version_in};
-use text::fault::TableFault;
+use text::fault::{LineFault, TableFault, ensure};
 use text::line::{Fields, Line};
 
 /// The most names that a grammar has.
@@ -37,13 +37,17 @@ impl<'a> Tables<'a> {
     fn name_line(&self, mut fields: Fields<'a>) -> Result<Entry<'a>, TableFault>
         ensures { seen fact result ≡ name_line (plain self.now) fields.entry.line (fields_left fields.entry) }
     {
+        let line = fields.line();
         let kind = fields.key()?;
         let spelling = fields.spelling()?;
         fields.end()?;
         let kind = kind_in(kind)?;
-        check_room(NAMES, self.names.len(), fields.line())?;
+        ensure(self.names.len() < NAMES, TableFault::Full { line })?;
         let spelling = spelling.spelling()?;
-        check_fresh(fields.line(), spelling, self.spellings.as_slice())?;
+        ensure(
+            !holds(self.spellings.as_slice(), spelling),
+            LineFault::Spelling { line },
+        )?;
         Ok(Entry::Name(kind, spelling))
     }
 
@@ -51,11 +55,12 @@ impl<'a> Tables<'a> {
     fn under_line(&self, fields: Fields<'a>) -> Result<Entry<'a>, TableFault>
         ensures { seen fact result ≡ under_line (plain self.now) fields.entry.line (fields_left fields.entry) }
     {
+        let line = fields.line();
         let numbers = take_numbers(Arity::Two, fields)?;
         let (name, head) = numbers.values()?;
-        check_place(
+        ensure(
             may_get_head(self.names.as_slice(), name, head),
-            fields.line(),
+            TableFault::Place { line },
         )?;
         Ok(Entry::Under(name, head))
     }
@@ -64,41 +69,47 @@ impl<'a> Tables<'a> {
     fn node_line(&self, mut fields: Fields<'a>) -> Result<Entry<'a>, TableFault>
         ensures { seen fact result ≡ node_line (plain self.now) fields.entry.line (fields_left fields.entry) }
     {
+        let line = fields.line();
         let word = fields.key()?;
         let shape = shape_in(word)?;
         let numbers = take_numbers(shape.arity(), fields)?;
-        check_room(NODES, self.nodes.len(), fields.line())?;
+        ensure(self.nodes.len() < NODES, TableFault::Full { line })?;
         let (a, b) = numbers.values()?;
         let node = shape.node(a, b);
-        check_place(
+        ensure(
             may_be_node(self.names.as_slice(), self.nodes.len(), node),
-            fields.line(),
+            TableFault::Place { line },
         )?;
-        Ok(Entry::Node(node, fields.line()))
+        Ok(Entry::Node(node, line))
     }
 
     /// `rule=SPELLING,NODE`.
     fn rule_line(&self, mut fields: Fields<'a>) -> Result<Entry<'a>, TableFault>
         ensures { seen fact result ≡ rule_line (plain self.now) fields.entry.line (fields_left fields.entry) }
     {
+        let line = fields.line();
         let spelling = fields.spelling()?;
         let body = fields.number()?;
         fields.end()?;
-        check_room(RULES, self.bodies.len(), fields.line())?;
+        ensure(self.bodies.len() < RULES, TableFault::Full { line })?;
         let body = body.value()?;
         let spelling = spelling.spelling()?;
-        check_fresh(fields.line(), spelling, self.rules.as_slice())?;
-        check_place(body < self.nodes.len(), fields.line())?;
-        Ok(Entry::Rule(spelling, body, fields.line()))
+        ensure(
+            !holds(self.rules.as_slice(), spelling),
+            LineFault::Spelling { line },
+        )?;
+        ensure(body < self.nodes.len(), TableFault::Place { line })?;
+        Ok(Entry::Rule(spelling, body, line))
     }
 
     /// `end=COUNT`.
     fn end_line(&self, fields: Fields<'a>) -> Result<Entry<'a>, TableFault>
         ensures { seen fact result ≡ end_line (plain self.now) fields.entry.line (fields_left fields.entry) }
     {
+        let line = fields.line();
         let numbers = take_numbers(Arity::One, fields)?;
         let (count, _) = numbers.values()?;
-        check_place(count == self.bodies.len(), fields.line())?;
+        ensure(count == self.bodies.len(), TableFault::Place { line })?;
         Ok(Entry::End)
     }
 
@@ -124,7 +135,12 @@ impl<'a> Draft<'a> {
     {
         let (key, fields) = line.parts()?;
         let key = key_in(key)?;
-        check_form(self.stage.allows(key), line.number())?;
+        ensure(
+            self.stage.allows(key),
+            LineFault::Form {
+                line: line.number(),
+            },
+        )?;
         self.tables.keyed_line(key, fields)
     }
 }

@@ -4,13 +4,12 @@ ghost use Rattle.text.specs.Fields.{seen};
 ghost use Rattle.tables.specs.Plain.{plain, sketch};
 ghost use Rattle.tables.specs.Read.{present, closed, read, answers};
 
-use crate::checks::check_form;
 use crate::draft::{Draft, Mention};
 use crate::fault::ReadError;
 use crate::table::Tables;
 use crate::words::Stage;
 use std::alloc::Global;
-use text::fault::TableFault;
+use text::fault::{LineFault, TableFault, ensure};
 use text::line::whole;
 use text::reader::Reader;
 
@@ -22,9 +21,10 @@ fn check_mentions(count: usize, mentions: &[Mention]) -> Result<(), TableFault>
     ensures { result ≡ present count mentions.now }
 {
     for mention in mentions {
-        if mention.rule >= count {
-            return Err(TableFault::Place { line: mention.line });
-        }
+        ensure(
+            mention.rule < count,
+            TableFault::Place { line: mention.line },
+        )?;
     }
     Ok(())
 }
@@ -39,7 +39,7 @@ impl<'a> Draft<'a> {
             mentions,
             stage,
         } = self;
-        check_form(stage.has_ended(), line)?;
+        ensure(stage == Stage::Ended, LineFault::Form { line })?;
         check_mentions(tables.bodies.len(), mentions.as_slice())?;
         Ok(tables)
     }

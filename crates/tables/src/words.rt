@@ -1,7 +1,7 @@
 //! The fixed words of a grammar text, and the order of its sections.
-ghost use Rattle.std.specs.Prelude.{◌≡◌, ◌==◌};
+ghost use Rattle.std.specs.Prelude.{◌≡◌, map};
 ghost use Rattle.text.specs.Fields.{view};
-ghost use Rattle.tables.specs.Words.{key_in, kind_in, version_in, shape_in, arity_of, node_of, order, leads, allowed, later};
+ghost use Rattle.tables.specs.Words.{word_in, key_in, kind_in, version_in, shape_in, arity_of, node_of, leads, allowed};
 
 use model::names::Kind;
 use model::nodes::Node;
@@ -20,7 +20,7 @@ pub enum Key {
 }
 
 /// How far the text has come: the section that its last line stands in.
-#[derive(Clone, Copy)]
+#[derive(Clone, Copy, PartialEq, Eq, PartialOrd, Ord)]
 pub enum Stage {
     Start,
     Names,
@@ -51,74 +51,69 @@ pub enum Arity {
     Two,
 }
 
+/// What the word that the field is stands for; a field that is none of the words is refused.
+fn word_in<T: Copy>(field: Field, words: &[(&[u8], T)]) -> Result<T, LineFault>
+    ensures { result ≡ word_in (view field.entry) (map (λ w. (w.0.now, w.1)) words.now) }
+{
+    for (word, meaning) in words {
+        if field.is(word) {
+            return Ok(*meaning);
+        }
+    }
+    Err(LineFault::Form { line: field.line() })
+}
+
 /// The key that the field is.
 pub(crate) fn key_in(field: Field) -> Result<Key, LineFault>
     ensures { result ≡ key_in (view field.entry) }
 {
-    if field.is(b"grammar") {
-        Ok(Key::Grammar)
-    } else if field.is(b"name") {
-        Ok(Key::Name)
-    } else if field.is(b"under") {
-        Ok(Key::Under)
-    } else if field.is(b"node") {
-        Ok(Key::Node)
-    } else if field.is(b"rule") {
-        Ok(Key::Rule)
-    } else if field.is(b"end") {
-        Ok(Key::End)
-    } else {
-        Err(LineFault::Form { line: field.line() })
-    }
+    word_in(
+        field,
+        &[
+            (b"grammar", Key::Grammar),
+            (b"name", Key::Name),
+            (b"under", Key::Under),
+            (b"node", Key::Node),
+            (b"rule", Key::Rule),
+            (b"end", Key::End),
+        ],
+    )
 }
 
 /// The kind of name that the field is.
 pub(crate) fn kind_in(field: Field) -> Result<Kind, LineFault>
     ensures { result ≡ kind_in (view field.entry) }
 {
-    if field.is(b"simple") {
-        Ok(Kind::Simple)
-    } else if field.is(b"element") {
-        Ok(Kind::Element)
-    } else {
-        Err(LineFault::Form { line: field.line() })
-    }
+    word_in(
+        field,
+        &[(b"simple", Kind::Simple), (b"element", Kind::Element)],
+    )
 }
 
 /// Refuses another number of the format than 1.
 pub(crate) fn version_in(field: Field) -> Result<(), LineFault>
     ensures { result ≡ version_in (view field.entry) }
 {
-    if field.is(b"1") {
-        Ok(())
-    } else {
-        Err(LineFault::Form { line: field.line() })
-    }
+    word_in(field, &[(b"1", ())])
 }
 
 /// The shape of node that the field is.
 pub(crate) fn shape_in(field: Field) -> Result<Shape, LineFault>
     ensures { result ≡ shape_in (view field.entry) }
 {
-    if field.is(b"none") {
-        Ok(Shape::Nothing)
-    } else if field.is(b"empty") {
-        Ok(Shape::Empty)
-    } else if field.is(b"simple") {
-        Ok(Shape::Simple)
-    } else if field.is(b"rule") {
-        Ok(Shape::Rule)
-    } else if field.is(b"element") {
-        Ok(Shape::Element)
-    } else if field.is(b"union") {
-        Ok(Shape::Union)
-    } else if field.is(b"seq") {
-        Ok(Shape::Seq)
-    } else if field.is(b"star") {
-        Ok(Shape::Star)
-    } else {
-        Err(LineFault::Form { line: field.line() })
-    }
+    word_in(
+        field,
+        &[
+            (b"none", Shape::Nothing),
+            (b"empty", Shape::Empty),
+            (b"simple", Shape::Simple),
+            (b"rule", Shape::Rule),
+            (b"element", Shape::Element),
+            (b"union", Shape::Union),
+            (b"seq", Shape::Seq),
+            (b"star", Shape::Star),
+        ],
+    )
 }
 
 impl Shape {
@@ -127,14 +122,9 @@ impl Shape {
         ensures { result ≡ arity_of self }
     {
         match self {
-            Shape::Nothing => Arity::Zero,
-            Shape::Empty => Arity::Zero,
-            Shape::Simple => Arity::One,
-            Shape::Rule => Arity::One,
-            Shape::Element => Arity::Two,
-            Shape::Union => Arity::Two,
-            Shape::Seq => Arity::Two,
-            Shape::Star => Arity::One,
+            Shape::Nothing | Shape::Empty => Arity::Zero,
+            Shape::Simple | Shape::Rule | Shape::Star => Arity::One,
+            Shape::Element | Shape::Union | Shape::Seq => Arity::Two,
         }
     }
 
@@ -156,58 +146,25 @@ impl Shape {
 }
 
 impl Stage {
-    /// Its place in the order of sections.
-    fn order(self) -> u8
-        ensures { result ≡ order self }
-    {
-        match self {
-            Stage::Start => 0,
-            Stage::Names => 1,
-            Stage::Unders => 2,
-            Stage::Nodes => 3,
-            Stage::Rules => 4,
-            Stage::Ended => 5,
-        }
-    }
-
-    /// Whether the end has been read.
-    pub(crate) fn has_ended(self) -> bool
-        ensures { result ≡ (order self == 5) }
-    {
-        self.order() == 5
-    }
-
-    /// Whether a line of the key may follow.
+    /// Whether a line of the key may follow: the text begins with `grammar`; after it no key goes
+    /// back to an earlier section, and none follows the end.
     pub(crate) fn allows(self, key: Key) -> bool
         ensures { result ≡ allowed self key }
     {
         match key {
-            Key::Grammar => self.order() == 0,
-            Key::Name => self.goes_on(key),
-            Key::Under => self.goes_on(key),
-            Key::Node => self.goes_on(key),
-            Key::Rule => self.goes_on(key),
-            Key::End => self.goes_on(key),
+            Key::Grammar => self == Stage::Start,
+            _ => self != Stage::Start && self != Stage::Ended && self <= key.stage(),
         }
-    }
-
-    /// Whether the text has begun and not ended, and the key's section is not past.
-    fn goes_on(self, key: Key) -> bool
-        ensures { result ≡ later self key }
-    {
-        let now = self.order();
-        (now >= 1) & (now < 5) & (now <= key.stage().order())
     }
 }
 
 impl Key {
     /// The section that a line of the key stands in.
-    pub(crate) fn stage(self) -> Stage
+    fn stage(self) -> Stage
         ensures { result ≡ leads self }
     {
         match self {
-            Key::Grammar => Stage::Names,
-            Key::Name => Stage::Names,
+            Key::Grammar | Key::Name => Stage::Names,
             Key::Under => Stage::Unders,
             Key::Node => Stage::Nodes,
             Key::Rule => Stage::Rules,

@@ -1,5 +1,5 @@
 //! The faults of lines and tables. An upper fault contains the lower one whole.
-ghost use Rattle.std.specs.Prelude.{◌≡◌};
+ghost use Rattle.std.specs.Prelude.{◌≡◌, cond, Ok, Err};
 ghost use Rattle.text.specs.Faults.{line_told, table_told};
 ghost use Rattle.text.specs.declared.fault.Told.{Told};
 ghost use Rattle.text.specs.declared.fault.TableFault.TheVariants.{Line as in_line};
@@ -66,6 +66,13 @@ pub trait Fault: Copy {
     {
         self.told().found_by
     }
+}
+
+/// Refuses with the fault, unless the test holds.
+pub fn ensure<E: Copy>(holds: bool, fault: E) -> Result<(), E>
+    ensures { result ≡ cond holds (Ok tt) (Err fault) }
+{
+    if holds { Ok(()) } else { Err(fault) }
 }
 
 /// What is wrong with a line by itself.
