@@ -1,27 +1,36 @@
 -- The turns of marking.
-use Rattle.std.proofs.Common.{◌≡◌, ℕ, ◌+◌, ◌<◌, ◌≤◌, Bool, true, false, cond, List, [], ◌∷◌, ◌++◌, length, get_or, take, set, Some, None, sym, refl, ap, ◌∙◌, subst, ⊎_elim, arith}
+use Rattle.std.proofs.Common.{◌≡◌, ℕ, ◌+◌, ◌<◌, ◌≤◌, Bool, true, false, cond, List, [], ◌∷◌, ◌++◌, length, get_or, take, set, Some, None, Option, sym, refl, ap, ◌∙◌, subst, ⊎_elim, arith}
+use Rattle.std.specs.Option.{is_some}
 use Rattle.std.proofs.lemmas.List.{length-take-le, length-set, take_more_set, get_or-set_same, get_or-set_other}
 use Rattle.std.proofs.lemmas.Bool.{cases_eq}
 use Rattle.model.specs.declared.rows.Row.{Row}
 use Rattle.model.specs.declared.rows.Item.{Item}
 use Rattle.model.specs.Blank.{blank_row}
 use Rattle.theory.specs.Machine.{Machine}
-use Rattle.marking.specs.Refutes.{refutation}
-use Rattle.marking.specs.Marks.{SetAt, Marked, StillFrom, Rooted}
+use Rattle.marking.specs.Refutes.{Marks, refutation}
+use Rattle.marking.specs.Marks.{mark_at, Marked, StillFrom, Rooted}
 use Rattle.marking.specs.Steps.{Roomy, Ready, Step, Sweeping, Swept}
 use Rattle.theory.specs.Inequality.{inconsistent}
 use Rattle.marking.proofs.Marked.{unset_one, marked_start, marked_more}
 
+-- what a test of a mark says
+pub unmarked : (marks : Marks) (i : ℕ) → is_some (mark_at marks i) ≡ false → mark_at marks i ≡ None
+unmarked marks i is = go (mark_at marks i) is
+  where
+    go : (o : Option ℕ) → is_some o ≡ false → o ≡ None
+    go None e = refl
+    go (Some k) e = cc
+
 -- no more items are used than there are rows, and one less if a row is unmarked
-pub used_within : (m : Machine) (rows : List Row) (marks : List ℕ) (items : List Item) (used : ℕ) → Ready m rows marks items used →
+pub used_within : (m : Machine) (rows : List Row) (marks : Marks) (items : List Item) (used : ℕ) → Ready m rows marks items used →
     used ≤ length rows
 used_within m rows marks items used ready =
     let e = length-take-le used items ready.within in
     let f = ready.marked.few in
     omega arith
 
-pub used_below : (m : Machine) (rows : List Row) (marks : List ℕ) (items : List Item) (used i : ℕ) → Ready m rows marks items used →
-    i < length rows → get_or marks i 0 ≡ 0 → used < length rows
+pub used_below : (m : Machine) (rows : List Row) (marks : Marks) (items : List Item) (used i : ℕ) → Ready m rows marks items used →
+    i < length rows → mark_at marks i ≡ None → used < length rows
 used_below m rows marks items used i ready li was =
     let e = length-take-le used items ready.within in
     let f = ready.marked.few in
@@ -29,8 +38,8 @@ used_below m rows marks items used i ready li was =
     omega arith
 
 -- a row that is marked, or that no marked rows refute
-pub step_none : (m : Machine) (rows : List Row) (i : ℕ) (marks : List ℕ) (items : List Item) (used : ℕ) →
-    Ready m rows marks items used → (get_or marks i 0 ≡ 0 → refutation m rows marks (get_or rows i blank_row) ≡ None) →
+pub step_none : (m : Machine) (rows : List Row) (i : ℕ) (marks : Marks) (items : List Item) (used : ℕ) →
+    Ready m rows marks items used → (mark_at marks i ≡ None → refutation m rows marks (get_or rows i blank_row) ≡ None) →
     Step m rows i marks marks items used used
 step_none m rows i marks items used ready none = record {
   ready = ready;
@@ -38,24 +47,24 @@ step_none m rows i marks items used ready none = record {
   same = λ e. refl;
   still = λ e was. none was;
   others = λ k ne. refl;
-  here = λ was is_set. absurd (is_set was);
+  here = λ k was is. let e : None ≡ Some k = sym was ∙ is in cc;
 }
 
 -- a row that is refuted now
-pub step_new : (m : Machine) (rows : List Row) (i : ℕ) (marks : List ℕ) (items : List Item) (used : ℕ) (x : Item) →
-    Ready m rows marks items used → i < length rows → get_or marks i 0 ≡ 0 →
+pub step_new : (m : Machine) (rows : List Row) (i : ℕ) (marks : Marks) (items : List Item) (used : ℕ) (x : Item) →
+    Ready m rows marks items used → i < length rows → mark_at marks i ≡ None →
     refutation m rows marks (get_or rows i blank_row) ≡ Some x →
-    Step m rows i marks (set marks i (used + 2)) (set items used x) used (used + 1)
+    Step m rows i marks (set marks i (Some (used + 1))) (set items used x) used (used + 1)
 step_new m rows i marks items used x ready li was found =
     let roomy = ready.roomy in
     let lt : used < length items = let h = used_below m rows marks items used i ready li was in let g = roomy.items_long in omega arith in
     let long = length-take-le used items ready.within in
     let il : i < length marks = let g = roomy.marks_long in omega arith in
-    let next : Marked m rows (set marks i (used + 2)) (take (used + 1) (set items used x)) =
-    subst (λ its. Marked m rows (set marks i (used + 2)) its) (sym (take_more_set items used x lt))
-    (subst (λ u. Marked m rows (set marks i (u + 2)) (take used items ++ x ∷ [])) long
+    let next : Marked m rows (set marks i (Some (used + 1))) (take (used + 1) (set items used x)) =
+    subst (λ its. Marked m rows (set marks i (Some (used + 1))) its) (sym (take_more_set items used x lt))
+    (subst (λ u. Marked m rows (set marks i (Some (u + 1))) (take used items ++ x ∷ [])) long
     (marked_more m rows marks (take used items) ready.marked i li roomy.marks_long was x found)) in
-    let a = length-set marks i (used + 2) in
+    let a = length-set marks i (Some (used + 1)) in
     let b = length-set items used x in
     record {
       ready = record {
@@ -71,11 +80,11 @@ step_new m rows i marks items used x ready li was found =
       rises = omega arith;
       same = λ e. absurd (omega arith);
       still = λ e was'. absurd (omega arith);
-      others = λ k ne. get_or-set_other marks i k (used + 2) 0 ne;
-      here = λ was' is_set. let h = get_or-set_same marks i (used + 2) 0 il in omega arith;
+      others = λ k ne. get_or-set_other marks i k (Some (used + 1)) None ne;
+      here = λ k was' is. let h : Some k ≡ Some (used + 1) = sym is ∙ get_or-set_same marks i (Some (used + 1)) None il in cc;
     }
 
-pub sweep_start : (m : Machine) (rows : List Row) (marks : List ℕ) (items : List Item) (used : ℕ) → Ready m rows marks items used →
+pub sweep_start : (m : Machine) (rows : List Row) (marks : Marks) (items : List Item) (used : ℕ) → Ready m rows marks items used →
     Sweeping m rows (length rows) marks marks items used used
 sweep_start m rows marks items used ready = record {
   ready = ready;
@@ -83,10 +92,10 @@ sweep_start m rows marks items used ready = record {
   same = λ e. refl;
   still = λ e k ge lt. absurd (omega arith);
   others = λ k lt. refl;
-  rooted = λ e was is_set. absurd (is_set was);
+  rooted = λ e was k is. let z : None ≡ Some k = sym was ∙ is in cc;
 }
 
-pub sweep_turn : (m : Machine) (rows : List Row) (i : ℕ) (marks marks' marks'' : List ℕ) (items' items'' : List Item) (used used' used'' : ℕ) →
+pub sweep_turn : (m : Machine) (rows : List Row) (i : ℕ) (marks marks' marks'' : Marks) (items' items'' : List Item) (used used' used'' : ℕ) →
     Sweeping m rows (i + 1) marks marks' items' used used' → Step m rows i marks' marks'' items'' used' used'' →
     Sweeping m rows i marks marks'' items'' used used''
 sweep_turn m rows i marks marks' marks'' items' items'' used used' used'' sw st = record {
@@ -98,14 +107,14 @@ sweep_turn m rows i marks marks' marks'' items' items'' used used' used'' sw st 
       let unchanged = sw.same (first' e) in
       subst (λ ms. refutation m rows ms (get_or rows k blank_row) ≡ None) unchanged
       (subst (λ j. refutation m rows marks' (get_or rows j blank_row) ≡ None) (sym at)
-      (st.still (second e) (ap (λ ms. get_or ms i 0) unchanged ∙ ap (λ j. get_or marks j 0) (sym at) ∙ was))))
+      (st.still (second e) (ap (λ ms. mark_at ms i) unchanged ∙ ap (mark_at marks) (sym at) ∙ was))))
       (λ ne. sw.still (first' e) k (omega arith) lt was)
       (cases_eq k i);
   others = λ k lt. st.others k (λ e. never k lt e) ∙ sw.others k (omega arith);
-  rooted = λ e was is_set.
-      let before : get_or marks' 0 0 ≡ 0 = sw.others 0 (omega arith) ∙ was in
-      let at : get_or marks'' i 0 ≡ get_or marks'' 0 0 = ap (λ j. get_or marks'' j 0) e in
-      sym at ∙ st.here (ap (λ j. get_or marks' j 0) e ∙ before) (λ z. is_set (sym at ∙ z));
+  rooted = λ e was k is.
+      let before : mark_at marks' 0 ≡ None = sw.others 0 (omega arith) ∙ was in
+      let at : mark_at marks'' i ≡ mark_at marks'' 0 = ap (mark_at marks'') e in
+      st.here k (ap (mark_at marks') e ∙ before) (at ∙ is);
 }
   where
     first' : used'' ≡ used → used' ≡ used
@@ -117,7 +126,7 @@ sweep_turn m rows i marks marks' marks'' items' items'' used used' used'' sw st 
     never : (k : ℕ) → k < i → k ≡ i → ⊥
     never k lt e = omega arith
 
-pub sweep_end : (m : Machine) (rows : List Row) (i : ℕ) (marks marks' : List ℕ) (items' : List Item) (used used' : ℕ) → i ≡ 0 →
+pub sweep_end : (m : Machine) (rows : List Row) (i : ℕ) (marks marks' : Marks) (items' : List Item) (used used' : ℕ) → i ≡ 0 →
     Sweeping m rows i marks marks' items' used used' → Swept m rows marks marks' items' used used'
 sweep_end m rows i marks marks' items' used used' e sw = record {
   ready = sw.ready;
@@ -127,9 +136,9 @@ sweep_end m rows i marks marks' items' used used' e sw = record {
 }
 
 -- how marking begins
-pub settle_start : (m : Machine) (rows : List Row) (marks marks' : List ℕ) (items : List Item) → 0 < length rows →
+pub settle_start : (m : Machine) (rows : List Row) (marks marks' : Marks) (items : List Item) → 0 < length rows →
     Roomy m rows marks items → length marks' ≡ length marks →
-    ((i : ℕ) → i < length rows → get_or marks' i 0 ≡ cond (inconsistent m (get_or rows i blank_row)) 1 0) →
+    ((i : ℕ) → i < length rows → mark_at marks' i ≡ cond (inconsistent m (get_or rows i blank_row)) (Some 0) None) →
     Ready m rows marks' items 0 × Rooted marks' 0
 settle_start m rows marks marks' items pos roomy long begun = (
   record {
@@ -142,9 +151,9 @@ settle_start m rows marks marks' items pos roomy long begun = (
     within = omega arith;
     marked = marked_start m rows marks' begun;
   },
-  (λ is_set. one (inconsistent m (get_or rows 0 blank_row)) (begun 0 pos) is_set),
+  (λ k is. one k (inconsistent m (get_or rows 0 blank_row)) (sym is ∙ begun 0 pos)),
 )
   where
-    one : (b : Bool) → get_or marks' 0 0 ≡ cond b 1 0 → SetAt marks' 0 → get_or marks' 0 0 ≡ 0 + 1
-    one true e is_set = e
-    one false e is_set = absurd (is_set e)
+    one : (k : ℕ) (b : Bool) → Some k ≡ cond b (Some 0) None → k ≡ 0
+    one k true e = cc
+    one k false e = cc

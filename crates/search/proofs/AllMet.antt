@@ -1,5 +1,5 @@
 -- What a meeting that met all gives to the decision.
-use Rattle.std.proofs.Common.{◌≡◌, ℕ, ◌<◌, ◌≤◌, true, ltb, leb, List, ◌∷◌, length, get_or, sym, ap, ◌∙◌, subst, arith}
+use Rattle.std.proofs.Common.{◌≡◌, ℕ, ◌<◌, ◌≤◌, true, ltb, leb, List, ◌∷◌, length, get_or, Result, Ok, sym, ap, ◌∙◌, subst, arith}
 use Rattle.std.proofs.lemmas.Bool.{and_parts, ltb-true, leb-true}
 use Rattle.model.specs.declared.rows.Row.{Row}
 use Rattle.model.specs.declared.rows.Item.{Item}
@@ -10,8 +10,8 @@ use Rattle.inequality.specs.Marks.{Sided}
 use Rattle.inequality.proofs.Lists.{member_at}
 use Rattle.inequality.proofs.Meets.{meet_begun, meet_all}
 use Rattle.marking.specs.Steps.{Roomy}
-use Rattle.search.specs.declared.meeting.End.{End}
-use Rattle.search.specs.declared.meeting.End.TheVariants.{All}
+use Rattle.sides.specs.declared.entering.Stop.{Stop}
+use Rattle.marking.specs.Refutes.{Marks}
 use Rattle.search.specs.declared.answer.Answer.{Answer}
 use Rattle.search.specs.declared.answer.Answer.TheVariants as answer
 use Rattle.search.specs.Ends.{end_of, met_by}
@@ -25,7 +25,7 @@ suited rows items marks e =
     let c = and_parts (leb rows items) _ b.1 in
     (ltb-true 0 rows a.0, leb-true rows 512 b.0, leb-true rows items c.0, leb-true rows marks c.1)
 
-module _ (m : Machine) (limit : ℕ) (root : Row) (pos : 0 < limit) (e : End) (is : e ≡ All) (rows : List Row)
+module _ (m : Machine) (limit : ℕ) (root : Row) (pos : 0 < limit) (e : Result Unit Stop) (u : Unit) (is : e ≡ Ok u) (rows : List Row)
     (met : met_by e rows ≡ meet m limit root) where
   pub met_end : (meet m limit root).end ≡ all
   met_end = ap (λ (x : Met). x.end) (sym met) ∙ ap end_of is
@@ -45,7 +45,7 @@ module _ (m : Machine) (limit : ℕ) (root : Row) (pos : 0 < limit) (e : End) (i
   pub met_sided : Sided m rows
   met_sided = subst (Sided m) met_rows (meet_all m limit root pos met_end).2
 
-  pub met_roomy : (marks : List ℕ) (items : List Item) → length rows ≤ limit → limit ≤ 512 → limit ≤ length items → limit ≤ length marks →
+  pub met_roomy : (marks : Marks) (items : List Item) → length rows ≤ limit → limit ≤ 512 → limit ≤ length items → limit ≤ length marks →
       Roomy m rows marks items
   met_roomy marks items within few li lm = record {
     few_rows = omega arith;

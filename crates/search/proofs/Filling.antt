@@ -1,11 +1,13 @@
 -- Blanking from a number on, and keeping the unmarked ones of a list in place.
-use Rattle.std.proofs.Common.{◌≡◌, ℕ, ◌+◌, ◌-◌, ◌<◌, ◌≤◌, Bool, true, false, cond, not, eqb, List, [], ◌∷◌, ◌++◌, length, get_or, take, drop, set, replicate, sym, refl, ap, ◌∙◌, ap₂, add-zero, arith}
+use Rattle.std.proofs.Common.{◌≡◌, ℕ, ◌+◌, ◌-◌, ◌<◌, ◌≤◌, Bool, true, false, cond, List, [], ◌∷◌, ◌++◌, length, get_or, take, drop, set, replicate, None, sym, refl, ap, ◌∙◌, ap₂, add-zero, arith}
+use Rattle.std.specs.Option.{is_some}
 use Rattle.std.proofs.lemmas.List.{append-nil, append_assoc, take_all, take_more, take_more_set, replicate_more, length-take-le, length-map, map_more, drop-set-lt, get_or-drop, drop-drop, length-set, length-append, length-replicate, length-take}
-use Rattle.std.proofs.lemmas.Bool.{eq-eqb, ne_eqb, cond-true, cond-false, not_from_true, not_from_false}
+use Rattle.std.proofs.lemmas.Bool.{cond-true, cond-false}
 use Rattle.model.specs.declared.rows.Row.{Row}
 use Rattle.model.specs.Blank.{blank_row}
 use Rattle.inequality.specs.Verdicts.{unmarked}
-use Rattle.marking.specs.Marks.{flags}
+use Rattle.marking.specs.Refutes.{Marks}
+use Rattle.marking.specs.Marks.{mark_at, flags}
 
 pub blank_start : {A : Type 0} (xs : List A) (b : A) (n : ℕ) → take n xs ≡ take n xs ++ replicate (n - n) b
 blank_start xs b n = let z : n - n ≡ 0 = omega arith in sym (ap (λ k. take n xs ++ replicate k b) z ∙ append-nil (take n xs))
@@ -40,41 +42,41 @@ unmarked_push (x ∷ xs) (true ∷ ms) r b e = unmarked_push xs ms r b (omega ar
 unmarked_push (x ∷ xs) (false ∷ ms) r b e = ap (λ l. x ∷ l) (unmarked_push xs ms r b (omega arith))
 
 -- the unmarked ones of the first i rows
-abbrev kept_of : List Row → List ℕ → ℕ → List Row
+abbrev kept_of : List Row → Marks → ℕ → List Row
 kept_of rows marks i = unmarked (take i rows) (flags marks i)
 
-kept_more : (rows : List Row) (marks : List ℕ) (i : ℕ) → i < length rows → i < length marks →
-    kept_of rows marks (i + 1) ≡ kept_of rows marks i ++ cond (not (eqb (get_or marks i 0) 0)) [] (get_or rows i blank_row ∷ [])
+kept_more : (rows : List Row) (marks : Marks) (i : ℕ) → i < length rows → i < length marks →
+    kept_of rows marks (i + 1) ≡ kept_of rows marks i ++ cond (is_some (mark_at marks i)) [] (get_or rows i blank_row ∷ [])
 kept_more rows marks i lr lm =
     let a : length (take i rows) ≡ length (flags marks i) =
-    length-take-le i rows (omega arith) ∙ sym (length-map (take i marks) (λ k. not (eqb k 0)) ∙ length-take-le i marks (omega arith)) in
-    ap₂ unmarked (take_more rows i blank_row lr) (map_more (λ k. not (eqb k 0)) marks i 0 lm)
-    ∙ unmarked_push (take i rows) (flags marks i) (get_or rows i blank_row) (not (eqb (get_or marks i 0) 0)) a
+    length-take-le i rows (omega arith) ∙ sym (length-map (take i marks) is_some ∙ length-take-le i marks (omega arith)) in
+    ap₂ unmarked (take_more rows i blank_row lr) (map_more is_some marks i None lm)
+    ∙ unmarked_push (take i rows) (flags marks i) (get_or rows i blank_row) (is_some (mark_at marks i)) a
 
 -- the rows in place after the first i were looked at: the unmarked ones stand first, the others from
 -- i on are as they were
-pub record Keeping (rows rows' : List Row) (marks : List ℕ) (i kept : ℕ) : Type 0 where
+pub record Keeping (rows rows' : List Row) (marks : Marks) (i kept : ℕ) : Type 0 where
   pub few : kept ≤ i
   pub front : take kept rows' ≡ unmarked (take i rows) (flags marks i)
   pub back : drop i rows' ≡ drop i rows
   pub long : length rows' ≡ length rows
 
-pub keep_start : (rows : List Row) (marks : List ℕ) → Keeping rows rows marks 0 0
+pub keep_start : (rows : List Row) (marks : Marks) → Keeping rows rows marks 0 0
 keep_start rows marks = record { few = omega arith; front = refl; back = refl; long = refl }
 
-pub keep_skip : (rows rows' : List Row) (marks : List ℕ) (i kept : ℕ) → i < length rows → i < length marks →
-    (get_or marks i 0 ≡ 0 → ⊥) → Keeping rows rows' marks i kept → Keeping rows rows' marks (i + 1) kept
+pub keep_skip : (rows rows' : List Row) (marks : Marks) (i kept : ℕ) → i < length rows → i < length marks →
+    is_some (mark_at marks i) ≡ true → Keeping rows rows' marks i kept → Keeping rows rows' marks (i + 1) kept
 keep_skip rows rows' marks i kept lr lm is_set inv = record {
   few = let h = inv.few in omega arith;
   front = inv.front ∙ sym (append-nil _)
       ∙ sym (kept_more rows marks i lr lm ∙ ap (λ l. kept_of rows marks i ++ l)
-      (cond-true (not (eqb (get_or marks i 0) 0)) [] (get_or rows i blank_row ∷ []) (not_from_false _ (ne_eqb (get_or marks i 0) 0 is_set))));
+      (cond-true (is_some (mark_at marks i)) [] (get_or rows i blank_row ∷ []) is_set));
   back = sym (drop-drop 1 i rows') ∙ ap (drop 1) inv.back ∙ drop-drop 1 i rows;
   long = inv.long;
 }
 
-pub keep_take : (rows rows' : List Row) (marks : List ℕ) (i kept : ℕ) → i < length rows → i < length marks →
-    get_or marks i 0 ≡ 0 → Keeping rows rows' marks i kept →
+pub keep_take : (rows rows' : List Row) (marks : Marks) (i kept : ℕ) → i < length rows → i < length marks →
+    is_some (mark_at marks i) ≡ false → Keeping rows rows' marks i kept →
     Keeping rows (set rows' kept (get_or rows' i blank_row)) marks (i + 1) (kept + 1)
 keep_take rows rows' marks i kept lr lm free inv =
     let h = inv.few in
@@ -87,7 +89,7 @@ keep_take rows rows' marks i kept lr lm free inv =
       few = omega arith;
       front = take_more_set rows' kept x within ∙ ap₂ (λ (ys : List Row) (y : Row). ys ++ y ∷ []) inv.front same
           ∙ sym (kept_more rows marks i lr lm ∙ ap (λ ys. kept_of rows marks i ++ ys)
-          (cond-false (not (eqb (get_or marks i 0) 0)) [] (get_or rows i blank_row ∷ []) (not_from_true _ (eq-eqb (get_or marks i 0) 0 free))));
+          (cond-false (is_some (mark_at marks i)) [] (get_or rows i blank_row ∷ []) free));
       back = drop-set-lt (i + 1) rows' kept x less ∙ sym (drop-drop 1 i rows') ∙ ap (drop 1) inv.back ∙ drop-drop 1 i rows;
       long = length-set rows' kept x ∙ inv.long;
     }
@@ -95,7 +97,7 @@ keep_take rows rows' marks i kept lr lm free inv =
     at : (i : ℕ) → i + 0 ≡ i → (ys : List Row) → get_or ys i blank_row ≡ get_or (drop i ys) 0 blank_row
     at i e ys = sym (get_or-drop i ys 0 blank_row ∙ ap (λ k. get_or ys k blank_row) e)
 
-pub keep_end : (rows rows' : List Row) (marks : List ℕ) (i n kept : ℕ) → i ≡ n → n ≤ length rows → Keeping rows rows' marks i kept →
+pub keep_end : (rows rows' : List Row) (marks : Marks) (i n kept : ℕ) → i ≡ n → n ≤ length rows → Keeping rows rows' marks i kept →
     (kept ≡ length (unmarked (take n rows) (flags marks n))) × (take kept rows' ≡ unmarked (take n rows) (flags marks n))
 keep_end rows rows' marks i n kept at le inv =
     let front : take kept rows' ≡ unmarked (take n rows) (flags marks n) = inv.front ∙ ap (kept_of rows marks) at in

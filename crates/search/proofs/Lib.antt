@@ -2,3 +2,4 @@ pub mod Walk
 pub mod Filling
 pub mod Deciding
 pub mod AllMet
+mod Looking

@@ -1,7 +1,7 @@
 -- The turns of a meeting: it ends, meets a wide row, goes on, or runs out of rows.
-use Rattle.std.proofs.Common.{◌≡◌, ℕ, zero, suc, ◌+◌, ◌-◌, ◌<◌, ◌≤◌, Bool, true, false, ltb, List, length, get_or, take, set, sym, refl, ap, ◌∙◌, arith}
+use Rattle.std.proofs.Common.{◌≡◌, ℕ, zero, suc, ◌+◌, ◌-◌, ◌<◌, ◌≤◌, Bool, true, false, ltb, List, length, get_or, [], ◌∷◌, take, Err, sym, refl, ap, ◌∙◌, arith}
 use Rattle.std.proofs.lemmas.Bool.{le-leb, lt-leb, lt-ltb, le-ltb, leb-true, leb-false}
-use Rattle.std.proofs.lemmas.List.{get_or-take, length-take, take_all, length-set, take_more_set}
+use Rattle.std.proofs.lemmas.List.{take_all}
 use Rattle.model.specs.declared.rows.Row.{Row}
 use Rattle.model.specs.Blank.{blank_row}
 use Rattle.theory.specs.Machine.{Machine}
@@ -9,6 +9,10 @@ use Rattle.theory.specs.Count.{entered}
 use Rattle.theory.specs.Inequality.{wide, same_row}
 use Rattle.theory.specs.Meeting.{all, wide_row, out_of_rows, Met, sides, widened, meet_on, meet}
 use Rattle.book.specs.declared.Book.{Book}
+use Rattle.sides.specs.Took.{Took}
+use Rattle.sides.specs.declared.entering.Stop.{Stop}
+use Rattle.sides.specs.declared.entering.Stop.TheVariants.{Wide, OutOfRows}
+use Rattle.search.specs.Ends.{met_by}
 use Rattle.book.specs.Feeding.{holds, room, Fills}
 
 pub walk_end : (m : Machine) (limit steps taken : ℕ) (rows : List Row) → length rows ≤ taken →
@@ -89,29 +93,17 @@ walk_more m limit total taken rows lt here narrow room =
     ∙ ap (step m limit (total - (taken + 1)) taken rows false) (le-ltb limit (length (widened m rows taken)) room)
 
 -- the same over a book of rows whose row number `taken` is taken
-module _ (m : Machine) (total taken : ℕ) (b a : Book Row) (lt : taken < b.count) (fits : b.count ≤ room b) where
-  long : length (holds b) ≡ b.count
-  long = let e = length-take b.count b.records.now in omega arith
-
-  here : taken < length (holds b)
-  here = let e = long in omega arith
-
-  at : get_or b.records.now taken blank_row ≡ get_or (holds b) taken blank_row
-  at = sym (get_or-take b.count b.records.now taken blank_row lt)
-
-  row : Row
-  row = get_or b.records.now taken blank_row
-
-  whole : entered same_row (holds b) (sides m (get_or b.records.now taken blank_row)) ≡ widened m (holds b) taken
+module _ (m : Machine) (total taken : ℕ) (b a : Book Row) (r : Row) (here : taken < length (holds b))
+    (at : r ≡ get_or (holds b) taken blank_row) where
+  whole : entered same_row (holds b) (sides m r) ≡ widened m (holds b) taken
   unfolding widened
   whole = ap (λ r. entered same_row (holds b) (sides m r)) at
 
-  pub turn_wide : taken < total → wide m (get_or b.records.now taken blank_row) ≡ true →
+  pub turn_wide : taken < total → wide m r ≡ true →
       meet_on m (room b) (total - taken) taken (holds b) ≡ record { end = wide_row; rows = holds b }
   turn_wide more is = walk_wide m (room b) total taken (holds b) more here (ap (wide m) (sym at) ∙ is)
 
-  pub turn_full : taken < total → wide m (get_or b.records.now taken blank_row) ≡ false →
-      Fills same_row b a (sides m (get_or b.records.now taken blank_row)) false →
+  pub turn_full : taken < total → wide m r ≡ false → Fills same_row b a (sides m r) false →
       meet_on m (room b) (total - taken) taken (holds b) ≡ record { end = out_of_rows; rows = holds a }
   turn_full more narrow fills =
       let over = leb-false _ _ (sym fills.fed.fits) in
@@ -120,8 +112,7 @@ module _ (m : Machine) (total taken : ℕ) (b a : Book Row) (lt : taken < b.coun
       walk_full m (room b) total taken (holds b) more here (ap (wide m) (sym at) ∙ narrow) large
       ∙ (λ i. record { end = out_of_rows; rows = sym (fills.fed.held ∙ ap (take (room b)) whole) i })
 
-  pub turn_more : taken < total → wide m (get_or b.records.now taken blank_row) ≡ false →
-      Fills same_row b a (sides m (get_or b.records.now taken blank_row)) true →
+  pub turn_more : taken < total → wide m r ≡ false → Fills same_row b a (sides m r) true →
       meet_on m (room b) (total - taken) taken (holds b) ≡ meet_on m (room b) (total - (taken + 1)) (taken + 1) (holds a)
   turn_more more narrow fills =
       let few = leb-true _ _ (sym fills.fed.fits) in
@@ -130,10 +121,24 @@ module _ (m : Machine) (total taken : ℕ) (b a : Book Row) (lt : taken < b.coun
       walk_more m (room b) total taken (holds b) more here (ap (wide m) (sym at) ∙ narrow) small
       ∙ ap (meet_on m (room b) (total - (taken + 1)) (taken + 1)) (sym (fills.fed.held ∙ ap (take (room b)) whole ∙ take_all (room b) (widened m (holds b) taken) small))
 
--- a meeting begins with the root in the first row
-pub meet_start : (m : Machine) (root : Row) (rows : List Row) → 0 < length rows →
-    meet_on m (length (set rows 0 root)) (length (set rows 0 root) + 1) 0 (take 1 (set rows 0 root)) ≡ meet m (length rows) root
+-- a meeting begins with the root alone in the book
+pub meet_start : (m : Machine) (root : Row) (b a : Book Row) → holds b ≡ [] → 0 < room b → Fills same_row b a (root ∷ []) true →
+    meet_on m (room b) (room b + 1) 0 (holds a) ≡ meet m (room b) root
 unfolding meet
-meet_start m root rows some =
-    ap (λ n. meet_on m n (n + 1) 0 (take 1 (set rows 0 root))) (length-set rows 0 root)
-    ∙ ap (meet_on m (length rows) (length rows + 1) 0) (take_more_set rows 0 root some)
+meet_start m root b a none some fills =
+    ap (meet_on m (room b) (room b + 1) 0) (fills.fed.held ∙ ap (λ l. take (room b) (entered same_row l (root ∷ []))) none ∙ take_all (room b) (root ∷ []) (omega arith))
+
+-- an empty book with room for a row has room for the root
+pub root_fits : (root : Row) (b a : Book Row) → holds b ≡ [] → 0 < room b → Fills same_row b a (root ∷ []) false → ⊥
+root_fits root b a none some fills =
+    let over = leb-false _ _ (sym fills.fed.fits) in
+    let e = ap (λ l. length (entered same_row l (root ∷ []))) none in
+    omega arith
+
+-- a turn that stops the meeting
+pub turn_stops : (m : Machine) (total taken : ℕ) (b a : Book Row) (r : Row) → taken < length (holds b) →
+    r ≡ get_or (holds b) taken blank_row → taken < total → (stop : Stop) → Took m r b a (Err stop) →
+    met_by (Err stop) (holds a) ≡ meet_on m (room b) (total - taken) taken (holds b)
+turn_stops m total taken b a r here at more Wide took =
+    ap (λ (k : Book Row). met_by (Err Wide) (holds k)) took.1 ∙ sym (turn_wide m total taken b a r here at more took.0)
+turn_stops m total taken b a r here at more OutOfRows took = sym (turn_full m total taken b a r here at more took.0 took.1)

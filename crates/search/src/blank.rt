@@ -1,38 +1,29 @@
-// Blanking rows and items, and keeping the unmarked rows.
+// Blanking records, and keeping the unmarked rows.
 ghost use Rattle.std.specs.Prelude.{◌≡◌, ◌-◌, ◌≤◌, ◌++◌, length, take, replicate};
-ghost use Rattle.model.specs.Blank.{blank_row, blank_item};
 ghost use Rattle.inequality.specs.Verdicts.{unmarked};
 ghost use Rattle.marking.specs.Marks.{flags};
 
-use model::rows::{Item, Row};
+use model::rows::Row;
 
-// Blanks all rows from a number on.
-pub(crate) fn blank_rows(rows: &mut [Row], from: usize)
-    ensures { rows.new ≡ take from rows.old ++ replicate (length rows.old - from) blank_row }
+// Blanks all records from a number on.
+pub(crate) fn blank_from<T: Copy>(records: &mut [T], from: usize, blank: T)
+    requires { from ≤ length records.old }
+    ensures { records.new ≡ take from records.old ++ replicate (length records.old - from) blank }
 {
-    for i in from..rows.len() {
-        rows[i] = Row::blank();
+    for record in &mut records[from..] {
+        *record = blank;
     }
 }
 
-// Blanks all items from a number on.
-pub(crate) fn blank_items(items: &mut [Item], from: usize)
-    ensures { items.new ≡ take from items.old ++ replicate (length items.old - from) blank_item }
-{
-    for i in from..items.len() {
-        items[i] = Item::blank();
-    }
-}
-
-// Moves the unmarked ones of the first rows to the front, in order, and gives their number.
-pub(crate) fn keep_unmarked(rows: &mut [Row], marks: &[usize], count: usize) -> usize
-    requires { (count ≤ length rows.old) × (count ≤ length marks.now) }
-    ensures number { result ≡ length (unmarked (take count rows.old) (flags marks.now count)) }
-    ensures kept { take result rows.new ≡ unmarked (take count rows.old) (flags marks.now count) }
+// Moves the rows that are not marked to the front, in order, and gives their number.
+pub(crate) fn keep_unmarked(rows: &mut [Row], marks: &[Option<usize>]) -> usize
+    requires { length marks.now ≤ length rows.old }
+    ensures number { result ≡ length (unmarked (take (length marks.now) rows.old) (flags marks.now (length marks.now))) }
+    ensures kept { take result rows.new ≡ unmarked (take (length marks.now) rows.old) (flags marks.now (length marks.now)) }
 {
     let mut place = 0;
-    for i in 0..count {
-        if marks[i] == 0 {
+    for (i, mark) in marks.iter().enumerate() {
+        if mark.is_none() {
             rows[place] = rows[i];
             place += 1;
         }

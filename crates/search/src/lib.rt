@@ -6,4 +6,5 @@ pub mod answer;
 mod blank;
 mod marks;
 pub mod meeting;
+mod met;
 mod refuting;

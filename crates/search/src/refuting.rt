@@ -2,160 +2,113 @@
 // witness, from the witnesses of its sides.
 ghost use Rattle.std.specs.Prelude.{◌≡◌, ◌^◌, ◌<◌, ◌≤◌, false, length};
 ghost use Rattle.theory.specs.Inequality.{wide as wide_row, pairs as distinct_pairs};
-ghost use Rattle.sides.specs.View.{view, names_of, covers_of};
-ghost use Rattle.marking.specs.Refutes.{mark_of, first, of_subset as subset_item, of_covered as covered_item, of_derivatives as derivative_item, refutation as refuted_by};
+ghost use Rattle.sides.specs.View.{seen, names_of};
+ghost use Rattle.marking.specs.Refutes.{mark_of, first, of_subset as subset_item, of_derivatives as derivative_item, refutation as refuted_by};
 
+use crate::met::MetRows;
 use book::find;
-use model::machine::{Derivative, Machine};
+use model::machine::Derivative;
 use model::rows::{Item, Row};
-use sides::covers::Covers;
-use sides::either::{content_side, rest_side};
-use sides::pairs::{Pair, pairs};
-use sides::wide::labelled;
+use sides::either::either_or;
+use sides::pairs::Pair;
 
-// The mark of a row, or 0 where it is none of the rows.
-fn mark(rows: &[Row], marks: &[usize], row: &Row) -> usize
-    requires { length rows.now ≤ length marks.now }
-    ensures { result ≡ mark_of rows.now marks.now row.now }
-{
-    let place = find(rows, rows.len(), row);
-    if place < rows.len() { marks[place] } else { 0 }
-}
+impl MetRows<'_> {
+    // The mark of a row, or None where it is none of the rows or has none.
+    fn mark(&self, marks: &[Option<usize>], row: &Row) -> Option<usize>
+        ensures { result ≡ mark_of self.now.rows.now marks.now row.now }
+    {
+        let place = find(self.rows, row)?;
+        *marks.get(place)?
+    }
 
-// The item of one either-or, if both sides are marked.
-fn of_subset(
-    rows: &[Row],
-    marks: &[usize],
-    t: usize,
-    derivative: Derivative,
-    pairs: &[Pair],
-    subset: usize,
-) -> Option<Item>
-    requires { length rows.now ≤ length marks.now }
-    ensures { result ≡ subset_item rows.now marks.now t derivative pairs.now subset }
-{
-    let content = mark(rows, marks, &content_side(derivative, pairs, subset));
-    let rest = mark(rows, marks, &rest_side(derivative, pairs, subset));
-    if content == 0 || rest == 0 {
-        None
-    } else {
+    // The item of one either-or, if both sides are marked.
+    fn of_subset(
+        &self,
+        marks: &[Option<usize>],
+        t: usize,
+        derivative: Derivative,
+        pairs: &[Pair],
+        subset: usize,
+    ) -> Option<Item>
+        ensures { result ≡ subset_item self.now.rows.now marks.now t derivative pairs.now subset }
+    {
+        let sides = either_or(derivative, pairs, subset);
+        let child = self.mark(marks, &sides.content)?;
+        let next = self.mark(marks, &sides.rest)?;
         Some(Item {
             name: t,
-            child: content - 1,
-            next: rest - 1,
+            child,
+            next,
         })
     }
-}
 
-// The first item over all subsets of the pairs.
-fn of_subsets(
-    rows: &[Row],
-    marks: &[usize],
-    t: usize,
-    derivative: Derivative,
-    pairs: &[Pair],
-) -> Option<Item>
-    requires { (length rows.now ≤ length marks.now) × (length pairs.now ≤ 8) }
-    ensures { result ≡ first (2 ^ length pairs.now) (subset_item rows.now marks.now t derivative pairs.now) }
-{
-    for subset in 0..(1usize << pairs.len()) {
-        match of_subset(rows, marks, t, derivative, pairs, subset) {
-            Some(item) => return Some(item),
-            None => {}
+    // The first item over all subsets of the pairs. (A `for`, since the clause of `find_map` ties its
+    // answer to no list.)
+    fn of_subsets(
+        &self,
+        marks: &[Option<usize>],
+        t: usize,
+        derivative: Derivative,
+        pairs: &[Pair],
+    ) -> Option<Item>
+        requires { length pairs.now ≤ 8 }
+        ensures { result ≡ first (2 ^ length pairs.now) (subset_item self.now.rows.now marks.now t derivative pairs.now) }
+    {
+        for subset in 0..1usize << pairs.len() {
+            if let Some(item) = self.of_subset(marks, t, derivative, pairs, subset) {
+                return Some(item);
+            }
         }
-    }
-    None
-}
-
-// The same if the derivative's label covers t.
-fn of_covered(
-    covers: &Covers,
-    rows: &[Row],
-    marks: &[usize],
-    t: usize,
-    derivative: Derivative,
-    pairs: &[Pair],
-) -> Option<Item>
-    requires { (length rows.now ≤ length marks.now) × (length pairs.now ≤ 8) }
-    ensures { result ≡ covered_item (covers_of covers.now) rows.now marks.now t pairs.now derivative }
-{
-    if covers.get(derivative.0, t) {
-        of_subsets(rows, marks, t, derivative, pairs)
-    } else {
         None
     }
-}
 
-// The same for all derivatives of the state q in order.
-fn of_derivatives(
-    machine: &Machine,
-    covers: &Covers,
-    rows: &[Row],
-    marks: &[usize],
-    t: usize,
-    q: usize,
-    pairs: &[Pair],
-) -> Option<Item>
-    requires { (length rows.now ≤ length marks.now) × (length pairs.now ≤ 8) }
-    ensures { result ≡ derivative_item (view machine.now covers.now) rows.now marks.now t q pairs.now }
-{
-    let derivatives = machine.derivatives(q);
-    for i in 0..derivatives.len() {
-        match of_covered(covers, rows, marks, t, derivatives[i], pairs) {
-            Some(item) => return Some(item),
-            None => {}
+    // The same for all derivatives of the state q whose label covers t, in order.
+    fn of_derivatives(
+        &self,
+        marks: &[Option<usize>],
+        t: usize,
+        q: usize,
+        pairs: &[Pair],
+    ) -> Option<Item>
+        requires { length pairs.now ≤ 8 }
+        ensures { result ≡ derivative_item (seen self.now.setting.now) self.now.rows.now marks.now t q pairs.now }
+    {
+        for derivative in self.setting.machine.derivatives(q) {
+            if !self.setting.covers.get(derivative.0, t) {
+                continue;
+            }
+            if let Some(item) = self.of_subsets(marks, t, *derivative, pairs) {
+                return Some(item);
+            }
+        }
+        None
+    }
+
+    // The same under the name t, for a row that is not wide.
+    fn of_name(&self, marks: &[Option<usize>], row: &Row, t: usize) -> Option<Item>
+        requires { (wide_row (seen self.now.setting.now) row.now ≡ false) × (t < names_of self.now.setting.now.covers.now) }
+        ensures { result ≡ derivative_item (seen self.now.setting.now) self.now.rows.now marks.now t row.now.left (distinct_pairs (seen self.now.setting.now) t row.now.right.bits) }
+    {
+        if !self.setting.is_labelled(row.left, t) {
+            return None;
+        }
+        match self.setting.pairs(t, &row.right) {
+            Some(pairs) => self.of_derivatives(marks, t, row.left, &pairs),
+            None => None,
         }
     }
-    None
-}
 
-// The same under the name t, for a row that is not wide.
-fn of_name(
-    machine: &Machine,
-    covers: &Covers,
-    rows: &[Row],
-    marks: &[usize],
-    row: &Row,
-    t: usize,
-) -> Option<Item>
-    requires { (length rows.now ≤ length marks.now) × ((wide_row (view machine.now covers.now) row.now ≡ false) × (t < names_of covers.now)) }
-    ensures { result ≡ derivative_item (view machine.now covers.now) rows.now marks.now t row.now.left (distinct_pairs (view machine.now covers.now) t row.now.right.bits) }
-{
-    if !labelled(machine, covers, row.left, t) {
-        return None;
-    }
-    let mut records = [(0, 0); 8];
-    match pairs(machine, covers, t, &row.right, &mut records) {
-        Some(count) => of_derivatives(
-            machine,
-            covers,
-            rows,
-            marks,
-            t,
-            row.left,
-            &records[0..count],
-        ),
-        None => None,
-    }
-}
-
-// The item that refutes a row, which is not wide: that of its first either-or both of whose sides
-// are marked.
-pub(crate) fn refutation(
-    machine: &Machine,
-    covers: &Covers,
-    rows: &[Row],
-    marks: &[usize],
-    row: &Row,
-) -> Option<Item>
-    requires { (length rows.now ≤ length marks.now) × (wide_row (view machine.now covers.now) row.now ≡ false) }
-    ensures { result ≡ refuted_by (view machine.now covers.now) rows.now marks.now row.now }
-{
-    for t in 0..covers.names() {
-        match of_name(machine, covers, rows, marks, row, t) {
-            Some(item) => return Some(item),
-            None => {}
+    // The item that refutes a row, which is not wide: that of its first either-or both of whose
+    // sides are marked.
+    pub(crate) fn refutation(&self, marks: &[Option<usize>], row: &Row) -> Option<Item>
+        requires { wide_row (seen self.now.setting.now) row.now ≡ false }
+        ensures { result ≡ refuted_by (seen self.now.setting.now) self.now.rows.now marks.now row.now }
+    {
+        for t in 0..self.setting.covers.names() {
+            if let Some(item) = self.of_name(marks, row, t) {
+                return Some(item);
+            }
         }
+        None
     }
-    None
 }

@@ -1,66 +1,59 @@
-use Rattle.std.proofs.Common.{◌+◌, ◌-◌, ◌<◌, ◌≤◌, length, sym, ap, ◌∙◌, subst, arith}
-use Rattle.std.proofs.lemmas.List.{length-take}
+use Rattle.std.proofs.Common.{◌≡◌, ◌+◌, ◌-◌, ◌<◌, List, length, get_or, Err, sym, ap, ◌∙◌, arith}
+use Rattle.std.proofs.lemmas.Result.{err_from_is_err_and}
 use Rattle.model.specs.declared.rows.Row.{Row}
+use Rattle.model.specs.Blank.{blank_row}
 use Rattle.theory.specs.Meeting.{meet_on}
-use Rattle.book.specs.declared.Book.{Book}
 use Rattle.book.specs.Feeding.{holds, room}
-use Rattle.sides.specs.View.{view}
+use Rattle.book.proofs.Feeding.{holds_room}
+use Rattle.sides.specs.View.{seen}
 use Rattle.search.specs.Ends.{met_by}
-use Rattle.search.specs.declared.meeting.End.TheVariants.{Wide}
-use Rattle.search.proofs.Walk.{walk_end, turn_wide, turn_full, turn_more}
+use Rattle.search.proofs.Walk.{turn_stops, turn_more, meet_start}
 use Rattle.search.proofs.meeting.walk.Goals as goal
 
-pub returns-in-Wide : goal.returns-in-Wide
-returns-in-Wide c =
-    let m = view c.args.machine.now c.args.covers.now in
-    let inv = c.loop-taken.invariant in
-    let took = c.in-Wide.ensures.took in
-    let more : c.loop-taken.taken < room c.args.book.now + 1 = omega (arith, inv.1, inv.2, c.loop-taken-test.true) in
-    let turn = turn_wide m (room c.args.book.now + 1) c.loop-taken.taken c.loop-taken.book c.take_row.new.book c.loop-taken-test.true inv.1 more took.0 in
+pub loop-row-init : goal.loop-row-init
+loop-row-init c =
+    let m = seen c.args.setting.now in
     record {
-      met = ap (λ (b : Book Row). met_by Wide (holds b)) took.1 ∙ sym turn
-          ∙ ap (λ n. meet_on m n (room c.args.book.now + 1 - c.loop-taken.taken) c.loop-taken.taken (holds c.loop-taken.book)) inv.2 ∙ inv.0;
-      within = subst (λ (b : Book Row). b.count ≤ room b) (sym took.1) inv.1;
-      lent = c.take_row.ensures.lent ∙ inv.3;
+      met = ap (λ n. meet_on m (room c.args.book.now) n 0 (holds c.put.new.self)) (omega arith)
+          ∙ meet_start m c.args.root c.args.book.now c.put.new.self c.requires.0 c.requires.1 c.in_ok-put.ensures;
+      len = c.put.ensures.kept.len;
+      lent = c.put.ensures.kept.lent;
     }
 
-pub returns-in-Full : goal.returns-in-Full
-returns-in-Full c =
-    let m = view c.args.machine.now c.args.covers.now in
-    let inv = c.loop-taken.invariant in
-    let took = c.in-Full.ensures.took in
-    let more : c.loop-taken.taken < room c.args.book.now + 1 = omega (arith, inv.1, inv.2, c.loop-taken-test.true) in
-    let turn = turn_full m (room c.args.book.now + 1) c.loop-taken.taken c.loop-taken.book c.take_row.new.book c.loop-taken-test.true inv.1 more took.0 took.1 in
-    record {
-      met = sym turn
-          ∙ ap (λ n. meet_on m n (room c.args.book.now + 1 - c.loop-taken.taken) c.loop-taken.taken (holds c.loop-taken.book)) inv.2 ∙ inv.0;
-      within = took.1.kept.within inv.1;
-      lent = c.take_row.ensures.lent ∙ inv.3;
-    }
+pub returns-in_err-take_row-clause-met : goal.returns-in_err-take_row-clause-met
+returns-in_err-take_row-clause-met c =
+    let m = seen c.args.setting.now in
+    let book = c.loop-row.book in
+    let taken = c.loop-row.taken in
+    let inv = c.loop-row.invariant in
+    let limit = room c.args.book.now in
+    let stop = err_from_is_err_and c.from_residual-in_err-take_row.result c.from_residual-in_err-take_row.ensures.1 in
+    let here : taken < length (holds book) = omega (arith, ap length c.records.ensures, c.in-Some.ensures.lookup.3.0) in
+    let at : c.in-Some.field-0.now ≡ get_or (holds book) taken blank_row =
+    c.in-Some.ensures.lookup.4 (omega arith) blank_row ∙ ap (λ (l : List Row). get_or l taken blank_row) c.records.ensures in
+    let more : taken < limit + 1 = omega (arith, here, holds_room book, inv.len) in
+    ap (λ e. met_by e (holds c.take_row.new.book)) (stop.1 ∙ ap Err stop.2)
+    ∙ turn_stops m (limit + 1) taken book c.take_row.new.book c.in-Some.field-0.now here at more c.in_err-take_row.field-0.0 c.in_err-take_row.ensures.took
+    ∙ ap (λ n. meet_on m n (limit + 1 - taken) taken (holds book)) inv.len
+    ∙ inv.met
 
-pub loop-taken-preserved : goal.loop-taken-preserved
-loop-taken-preserved c =
-    let m = view c.args.machine.now c.args.covers.now in
-    let inv = c.loop-taken.invariant in
-    let took = c.in-Entered.ensures.took in
-    let more : c.loop-taken.taken < room c.args.book.now + 1 = omega (arith, inv.1, inv.2, c.loop-taken-test.true) in
-    let turn = turn_more m (room c.args.book.now + 1) c.loop-taken.taken c.loop-taken.book c.take_row.new.book c.loop-taken-test.true inv.1 more took.0 took.1 in (
-      (ap (λ n. meet_on m n (room c.args.book.now + 1 - (c.loop-taken.taken + 1)) (c.loop-taken.taken + 1) (holds c.take_row.new.book)) (sym inv.2)
-          ∙ sym turn
-          ∙ ap (λ n. meet_on m n (room c.args.book.now + 1 - c.loop-taken.taken) c.loop-taken.taken (holds c.loop-taken.book)) inv.2 ∙ inv.0),
-      took.1.kept.within inv.1,
-      (took.1.kept.len ∙ inv.2),
-      (c.take_row.ensures.lent ∙ inv.3),
-    )
-
-pub returns : goal.returns
-returns c =
-    let m = view c.args.machine.now c.args.covers.now in
-    let inv = c.loop-taken.invariant in
-    let e = length-take c.loop-taken.book.count c.loop-taken.book.records.now in
-    let le : length (holds c.loop-taken.book) ≤ c.loop-taken.taken = omega (arith, e, c.loop-taken-test.false) in
+pub loop-row-preserved : goal.loop-row-preserved
+loop-row-preserved c =
+    let m = seen c.args.setting.now in
+    let book = c.loop-row.book in
+    let taken = c.loop-row.taken in
+    let inv = c.loop-row.invariant in
+    let limit = room c.args.book.now in
+    let took = c.in_ok-take_row.ensures.took in
+    let here : taken < length (holds book) = omega (arith, ap length c.records.ensures, c.in-Some.ensures.lookup.3.0) in
+    let at : c.in-Some.field-0.now ≡ get_or (holds book) taken blank_row =
+    c.in-Some.ensures.lookup.4 (omega arith) blank_row ∙ ap (λ (l : List Row). get_or l taken blank_row) c.records.ensures in
+    let more : taken < limit + 1 = omega (arith, here, holds_room book, inv.len) in
     record {
-      met = sym (walk_end m (room c.args.book.now) (room c.args.book.now + 1 - c.loop-taken.taken) c.loop-taken.taken (holds c.loop-taken.book) le) ∙ inv.0;
-      within = inv.1;
-      lent = inv.3;
+      met = ap (λ n. meet_on m n (limit + 1 - (taken + 1)) (taken + 1) (holds c.take_row.new.book)) (sym inv.len)
+          ∙ sym (turn_more m (limit + 1) taken book c.take_row.new.book c.in-Some.field-0.now here at more took.0 took.1)
+          ∙ ap (λ n. meet_on m n (limit + 1 - taken) taken (holds book)) inv.len
+          ∙ inv.met;
+      len = took.1.kept.len ∙ inv.len;
+      lent = took.1.kept.lent ∙ inv.lent;
     }
