@@ -1,9 +1,10 @@
 //! The faults of a call. A table's fault stands in it whole.
-ghost use Rattle.std.specs.Prelude.{◌≡◌, cond, Ok, Err};
+ghost use Rattle.std.specs.Prelude.{◌≡◌};
 ghost use Rattle.records.specs.Faults.{call_told};
 ghost use Rattle.records.specs.declared.fault.CallFault.TheVariants.{Table as in_table};
 ghost use Rattle.text.specs.declared.fault.TableFault.TheVariants.{Line as in_line};
 
+pub use text::fault::ensure;
 use text::fault::{Fault, Layer, LineFault, TableFault, Told};
 use thiserror::Error;
 
@@ -57,11 +58,4 @@ impl From<TableFault> for CallFault {
     fn from(table: TableFault) -> CallFault {
         CallFault::Table(table)
     }
-}
-
-/// Refuses with the fault, unless the test holds.
-pub fn ensure<E: Copy>(holds: bool, fault: E) -> Result<(), E>
-    ensures { result ≡ cond holds (Ok tt) (Err fault) }
-{
-    if holds { Ok(()) } else { Err(fault) }
 }
