@@ -208,11 +208,7 @@ fn tell_answer(
 }
 
 /// Asks a question on a register from new.
-fn ask_on(
-    rt: &HostRuntime,
-    grammar: &Grammar,
-    question: Question<'_>,
-) -> anyhow::Result<bool> {
+fn ask_on(rt: &HostRuntime, grammar: &Grammar, question: Question<'_>) -> anyhow::Result<bool> {
     let Question {
         left,
         right,
@@ -230,12 +226,7 @@ fn ask_on(
     };
     let mut register = Register::new(rt.alloc(), grammar, &relation)?;
     let mut lent = Lent::new(rt.alloc(), rows.min(LENT))?;
-    match register.question(
-        a,
-        b,
-        lent.rows.as_mut_slice(),
-        lent.items.as_mut_slice(),
-    ) {
+    match register.question(a, b, lent.rows.as_mut_slice(), lent.items.as_mut_slice()) {
         Ok(answer) => tell_answer(rt, &register, question, (a, b), answer, &mut lent),
         Err(fault) => {
             tell_refusal(rt, "question", fault)?;

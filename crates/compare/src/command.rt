@@ -90,7 +90,7 @@ fn word(words: &[String], i: usize) -> Option<&str> {
 }
 
 /// The command that the arguments give, if they give one.
-fn command(words: &[String]) -> Option<Command<'_>> {
+fn read_command(words: &[String]) -> Option<Command<'_>> {
     let command = match word(words, 1)? {
         "ask" => Command::Ask {
             grammar: word(words, 2)?,
@@ -130,7 +130,7 @@ fn command(words: &[String]) -> Option<Command<'_>> {
 /// Obeys the command that the arguments give; false where it ends without success.
 pub fn obey(rt: &HostRuntime) -> anyhow::Result<bool> {
     let words: Vec<String> = env::args(rt)?.collect(rt.alloc())?;
-    let Some(command) = command(words.as_slice()) else {
+    let Some(command) = read_command(words.as_slice()) else {
         eprintln!(rt; "{USAGE}")?;
         return Ok(false);
     };

@@ -4,8 +4,8 @@
 mod ask;
 mod command;
 mod hedge;
+mod lines;
 mod named;
-mod records;
 mod runs;
 mod tell;
 

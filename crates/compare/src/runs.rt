@@ -1,6 +1,6 @@
 //! Replaying a script.
+use crate::lines::{ItemLine, RowLine};
 use crate::named::Named;
-use crate::records::{ItemLine, RowLine};
 use crate::tell::{Counts, load_text, read_file, show_refusal};
 use load::grammar::Grammar;
 use model::verdict::Verdict;

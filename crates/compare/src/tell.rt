@@ -65,13 +65,9 @@ pub struct Counts {
 impl Counts {
     /// The counts of a grammar.
     pub fn of(grammar: &Grammar) -> Counts {
-        let derivatives = grammar
-            .machine
-            .states
-            .iter()
-            .fold(0usize, |sum, state| {
-                sum.saturating_add(state.derivatives.len())
-            });
+        let derivatives = grammar.machine.states.iter().fold(0usize, |sum, state| {
+            sum.saturating_add(state.derivatives.len())
+        });
         Counts {
             names: grammar.tables.names().len(),
             nodes: grammar.tables.nodes().len(),
