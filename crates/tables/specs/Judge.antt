@@ -3,13 +3,12 @@
 use Rattle.std.specs.Prelude.{ℕ, List, length, Ok, Result, ◌==◌, nat_lt}
 use Rattle.text.specs.declared.fault.TableFault.{TableFault}
 use Rattle.text.specs.Fields.{key, spelling, number, value_in, spelling_in}
-use Rattle.text.specs.Cursors.{taken, others, ended, line_parts}
+use Rattle.text.specs.Cursors.{taken, last_number, others, ended, line_parts}
 use Rattle.tables.specs.declared.words.Key.{Key}
 use Rattle.tables.specs.declared.words.Key.TheVariants as keys
-use Rattle.tables.specs.declared.words.Arity.TheVariants.{One, Two}
 use Rattle.tables.specs.Chain.{then, lift}
-use Rattle.tables.specs.Words.{key_in, kind_in, version_in, shape_in, arity_of, node_of, allowed}
-use Rattle.tables.specs.Args.{numbers_in, values_in}
+use Rattle.tables.specs.Words.{key_in, kind_in, version_in, allowed}
+use Rattle.tables.specs.Shapes.{node_in}
 use Rattle.tables.specs.Checks.{form, room, place, fresh, may_head, may_stand}
 use Rattle.tables.specs.Plain.{Plain, Sketch, Fact, begin, name, under, node, rule, end}
 
@@ -34,38 +33,38 @@ name_line t n fs =
 -- `under=NAME,HEAD`
 abbrev pub under_line : Plain → ℕ → List (List ℕ) → Result Fact TableFault
 under_line t n fs =
-    then (lift (numbers_in Two n fs)) (λ ns.
-    then (lift (values_in ns)) (λ v.
-    then (place (may_head t.names v.0 v.1) n) (λ _. Ok (under v.0 v.1))))
+    then (lift (taken number n fs)) (λ v.
+    then (lift (last_number n (others fs))) (λ w.
+    then (lift (value_in v)) (λ x.
+    then (lift (value_in w)) (λ h.
+    then (place (may_head t.names x h) n) (λ _. Ok (under x h))))))
 
 -- `node=SHAPE` with the numbers of its shape
 abbrev pub node_line : Plain → ℕ → List (List ℕ) → Result Fact TableFault
 node_line t n fs =
     then (lift (taken key n fs)) (λ w.
-    then (lift (shape_in w)) (λ s.
-    then (lift (numbers_in (arity_of s) n (others fs))) (λ ns.
+    then (lift (node_in w n (others fs))) (λ r.
     then (room 256 (length t.nodes) n) (λ _.
-    then (lift (values_in ns)) (λ v.
-    then (place (may_stand t.names (length t.nodes) (node_of s v.0 v.1)) n) (λ _. Ok (node (node_of s v.0 v.1) n)))))))
+    then (lift r) (λ x.
+    then (place (may_stand t.names (length t.nodes) x) n) (λ _. Ok (node x n))))))
 
 -- `rule=SPELLING,NODE`
 abbrev pub rule_line : Plain → ℕ → List (List ℕ) → Result Fact TableFault
 rule_line t n fs =
     then (lift (taken spelling n fs)) (λ v.
-    then (lift (taken number n (others fs))) (λ w.
-    then (lift (ended n (others (others fs)))) (λ _.
+    then (lift (last_number n (others fs))) (λ w.
     then (room 32 (length t.bodies) n) (λ _.
     then (lift (value_in w)) (λ b.
     then (lift (spelling_in v)) (λ s.
     then (lift (fresh n s t.rules)) (λ _.
-    then (place (nat_lt b (length t.nodes)) n) (λ _. Ok (rule s b n)))))))))
+    then (place (nat_lt b (length t.nodes)) n) (λ _. Ok (rule s b n))))))))
 
 -- `end=COUNT`
 abbrev pub end_line : Plain → ℕ → List (List ℕ) → Result Fact TableFault
 end_line t n fs =
-    then (lift (numbers_in One n fs)) (λ ns.
-    then (lift (values_in ns)) (λ v.
-    then (place (v.0 == length t.bodies) n) (λ _. Ok end)))
+    then (lift (last_number n fs)) (λ v.
+    then (lift (value_in v)) (λ c.
+    then (place (c == length t.bodies) n) (λ _. Ok end)))
 
 -- a line by its key
 abbrev pub keyed_line : Key → Plain → ℕ → List (List ℕ) → Result Fact TableFault

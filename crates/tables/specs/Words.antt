@@ -2,8 +2,6 @@
 use Rattle.std.specs.Prelude.{ℕ, Bool, cond, ◌&&◌, List, [], ◌∷◌, Ok, Err, codes, Result, ◌==◌, nat_le, nat_lt}
 use Rattle.model.specs.declared.names.Kind.{Kind}
 use Rattle.model.specs.declared.names.Kind.TheVariants as kind
-use Rattle.model.specs.declared.nodes.Node.{Node}
-use Rattle.model.specs.declared.nodes.Node.TheVariants as node
 use Rattle.text.specs.declared.fault.LineFault.{LineFault}
 use Rattle.text.specs.declared.fault.LineFault.TheVariants.{Form}
 use Rattle.text.specs.Fields.{View, line_of, is_word}
@@ -11,10 +9,6 @@ use Rattle.tables.specs.declared.words.Key.{Key}
 use Rattle.tables.specs.declared.words.Key.TheVariants as key
 use Rattle.tables.specs.declared.words.Stage.{Stage}
 use Rattle.tables.specs.declared.words.Stage.TheVariants as stage
-use Rattle.tables.specs.declared.words.Shape.{Shape}
-use Rattle.tables.specs.declared.words.Shape.TheVariants as shape
-use Rattle.tables.specs.declared.words.Arity.{Arity}
-use Rattle.tables.specs.declared.words.Arity.TheVariants as arity
 
 -- the word of a kind of name
 abbrev pub kind_word : Kind → List ℕ
@@ -29,17 +23,6 @@ key_word key.Under = codes "under"
 key_word key.Node = codes "node"
 key_word key.Rule = codes "rule"
 key_word key.End = codes "end"
-
--- the word of a shape of node
-abbrev pub shape_word : Shape → List ℕ
-shape_word shape.Nothing = codes "none"
-shape_word shape.Empty = codes "empty"
-shape_word shape.Simple = codes "simple"
-shape_word shape.Rule = codes "rule"
-shape_word shape.Element = codes "element"
-shape_word shape.Union = codes "union"
-shape_word shape.Seq = codes "seq"
-shape_word shape.Star = codes "star"
 
 -- what the word that the field is stands for, among words with what they stand for
 abbrev pub word_in : {X : Type 0} → View → List (List ℕ × X) → Result X LineFault
@@ -63,40 +46,6 @@ kind_in v = cond (is_word (kind_word kind.Simple) v) (Ok kind.Simple) (cond (is_
 -- the number of the format, which is 1
 abbrev pub version_in : View → Result (Unit {0}) LineFault
 version_in v = cond (is_word (codes "1") v) (Ok tt) (Err (Form (line_of v)))
-
--- the shape of node that the field is
-abbrev pub shape_in : View → Result Shape LineFault
-shape_in v =
-    cond (is_word (shape_word shape.Nothing) v) (Ok shape.Nothing)
-    (cond (is_word (shape_word shape.Empty) v) (Ok shape.Empty)
-    (cond (is_word (shape_word shape.Simple) v) (Ok shape.Simple)
-    (cond (is_word (shape_word shape.Rule) v) (Ok shape.Rule)
-    (cond (is_word (shape_word shape.Element) v) (Ok shape.Element)
-    (cond (is_word (shape_word shape.Union) v) (Ok shape.Union)
-    (cond (is_word (shape_word shape.Seq) v) (Ok shape.Seq)
-    (cond (is_word (shape_word shape.Star) v) (Ok shape.Star) (Err (Form (line_of v))))))))))
-
--- how many numbers a node of the shape has
-abbrev pub arity_of : Shape → Arity
-arity_of shape.Nothing = arity.Zero
-arity_of shape.Empty = arity.Zero
-arity_of shape.Simple = arity.One
-arity_of shape.Rule = arity.One
-arity_of shape.Element = arity.Two
-arity_of shape.Union = arity.Two
-arity_of shape.Seq = arity.Two
-arity_of shape.Star = arity.One
-
--- the node of the shape with these numbers
-abbrev pub node_of : Shape → ℕ → ℕ → Node
-node_of shape.Nothing a b = node.Nothing
-node_of shape.Empty a b = node.Empty
-node_of shape.Simple a b = node.Simple a
-node_of shape.Rule a b = node.Rule a
-node_of shape.Element a b = node.Element a b
-node_of shape.Union a b = node.Union a b
-node_of shape.Seq a b = node.Seq a b
-node_of shape.Star a b = node.Star a
 
 -- the sections in their order
 abbrev pub order : Stage → ℕ

@@ -5,11 +5,11 @@ ghost use Rattle.text.specs.Cursors.{fields_left};
 ghost use Rattle.tables.specs.Plain.{plain, sketch, fact};
 ghost use Rattle.tables.specs.Judge.{begin_line, name_line, under_line, node_line, rule_line, end_line, keyed_line, judged};
 
-use crate::args::take_numbers;
 use crate::checks::{holds, may_be_node, may_get_head};
 use crate::draft::{Draft, Entry};
+use crate::shape::Shape;
 use crate::table::Tables;
-use crate::words::{Arity, Key, key_in, kind_in, shape_in, version_in};
+use crate::words::{Key, key_in, kind_in, version_in};
 use text::fault::{LineFault, TableFault, ensure};
 use text::line::{Fields, Line};
 
@@ -52,12 +52,14 @@ impl<'a> Tables<'a> {
     }
 
     /// `under=NAME,HEAD`.
-    fn under_line(&self, fields: Fields<'a>) -> Result<Entry<'a>, TableFault>
+    fn under_line(&self, mut fields: Fields<'a>) -> Result<Entry<'a>, TableFault>
         ensures { seen fact result ≡ under_line (plain self.now) fields.entry.line (fields_left fields.entry) }
     {
         let line = fields.line();
-        let numbers = take_numbers(Arity::Two, fields)?;
-        let (name, head) = numbers.values()?;
+        let name = fields.number()?;
+        let head = fields.last_number()?;
+        let name = name.value()?;
+        let head = head.value()?;
         ensure(
             may_get_head(self.names.as_slice(), name, head),
             TableFault::Place { line },
@@ -71,11 +73,9 @@ impl<'a> Tables<'a> {
     {
         let line = fields.line();
         let word = fields.key()?;
-        let shape = shape_in(word)?;
-        let numbers = take_numbers(shape.arity(), fields)?;
+        let shape = Shape::read(word, fields)?;
         ensure(self.nodes.len() < NODES, TableFault::Full { line })?;
-        let (a, b) = numbers.values()?;
-        let node = shape.node(a, b);
+        let node = shape.node()?;
         ensure(
             may_be_node(self.names.as_slice(), self.nodes.len(), node),
             TableFault::Place { line },
@@ -89,8 +89,7 @@ impl<'a> Tables<'a> {
     {
         let line = fields.line();
         let spelling = fields.spelling()?;
-        let body = fields.number()?;
-        fields.end()?;
+        let body = fields.last_number()?;
         ensure(self.bodies.len() < RULES, TableFault::Full { line })?;
         let body = body.value()?;
         let spelling = spelling.spelling()?;
@@ -107,8 +106,7 @@ impl<'a> Tables<'a> {
         ensures { seen fact result ≡ end_line (plain self.now) fields.entry.line (fields_left fields.entry) }
     {
         let line = fields.line();
-        let numbers = take_numbers(Arity::One, fields)?;
-        let (count, _) = numbers.values()?;
+        let count = fields.last_number()?.value()?;
         ensure(count == self.bodies.len(), TableFault::Place { line })?;
         Ok(Entry::End)
     }

@@ -1,12 +1,12 @@
 //! The tables of a grammar, read from its text.
 #![tactic(auto)]
 
-mod args;
 mod checks;
 mod draft;
 pub mod fault;
 mod judge;
 mod read;
+mod shape;
 pub mod table;
 mod words;
 

@@ -1,10 +1,9 @@
 //! The fixed words of a grammar text, and the order of its sections.
 ghost use Rattle.std.specs.Prelude.{◌≡◌, map};
 ghost use Rattle.text.specs.Fields.{view};
-ghost use Rattle.tables.specs.Words.{word_in, key_in, kind_in, version_in, shape_in, arity_of, node_of, leads, allowed};
+ghost use Rattle.tables.specs.Words.{word_in, key_in, kind_in, version_in, leads, allowed};
 
 use model::names::Kind;
-use model::nodes::Node;
 use text::fault::LineFault;
 use text::field::Field;
 
@@ -28,27 +27,6 @@ pub enum Stage {
     Nodes,
     Rules,
     Ended,
-}
-
-/// What a node is by its first word.
-#[derive(Clone, Copy)]
-pub enum Shape {
-    Nothing,
-    Empty,
-    Simple,
-    Rule,
-    Element,
-    Union,
-    Seq,
-    Star,
-}
-
-/// How many numbers a line has.
-#[derive(Clone, Copy)]
-pub enum Arity {
-    Zero,
-    One,
-    Two,
 }
 
 /// What the word that the field is stands for; a field that is none of the words is refused.
@@ -95,54 +73,6 @@ pub(crate) fn version_in(field: Field) -> Result<(), LineFault>
     ensures { result ≡ version_in (view field.entry) }
 {
     word_in(field, &[(b"1", ())])
-}
-
-/// The shape of node that the field is.
-pub(crate) fn shape_in(field: Field) -> Result<Shape, LineFault>
-    ensures { result ≡ shape_in (view field.entry) }
-{
-    word_in(
-        field,
-        &[
-            (b"none", Shape::Nothing),
-            (b"empty", Shape::Empty),
-            (b"simple", Shape::Simple),
-            (b"rule", Shape::Rule),
-            (b"element", Shape::Element),
-            (b"union", Shape::Union),
-            (b"seq", Shape::Seq),
-            (b"star", Shape::Star),
-        ],
-    )
-}
-
-impl Shape {
-    /// How many numbers a node of the shape has.
-    pub(crate) fn arity(self) -> Arity
-        ensures { result ≡ arity_of self }
-    {
-        match self {
-            Shape::Nothing | Shape::Empty => Arity::Zero,
-            Shape::Simple | Shape::Rule | Shape::Star => Arity::One,
-            Shape::Element | Shape::Union | Shape::Seq => Arity::Two,
-        }
-    }
-
-    /// The node of the shape with these numbers.
-    pub(crate) fn node(self, a: usize, b: usize) -> Node
-        ensures { result ≡ node_of self a b }
-    {
-        match self {
-            Shape::Nothing => Node::Nothing,
-            Shape::Empty => Node::Empty,
-            Shape::Simple => Node::Simple(a),
-            Shape::Rule => Node::Rule(a),
-            Shape::Element => Node::Element(a, b),
-            Shape::Union => Node::Union(a, b),
-            Shape::Seq => Node::Seq(a, b),
-            Shape::Star => Node::Star(a),
-        }
-    }
 }
 
 impl Stage {

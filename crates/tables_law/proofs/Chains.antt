@@ -1,5 +1,5 @@
 -- What a chain of tests that succeeds tells of each test.
-use Rattle.std.proofs.Common.{◌≡◌, Bool, true, false, cond, ◌⊎◌, Ok, Err, Result, refl, ap, inl, inr}
+use Rattle.std.proofs.Common.{◌≡◌, Bool, true, false, cond, Ok, Err, Result, refl, ap}
 use Rattle.text.specs.declared.fault.LineFault.{LineFault}
 use Rattle.text.specs.declared.fault.TableFault.{TableFault}
 use Rattle.text_law.proofs.Cases.{no_ok, same_ok}
@@ -27,8 +27,3 @@ holds_ok false x y e h = absurd (no_ok h)
 pub fails_ok : {X E : Type 0} (b : Bool) (x y : X) (e : E) → cond b (Err e) (Ok x) ≡ Ok y → (b ≡ false) × (x ≡ y)
 fails_ok true x y e h = absurd (no_ok h)
 fails_ok false x y e h = (refl, same_ok h)
-
--- one of several words
-pub word_ok : {X E : Type 0} (b : Bool) (x : X) (r : Result X E) (y : X) → cond b (Ok x) r ≡ Ok y → ((b ≡ true) × (x ≡ y)) ⊎ (r ≡ Ok y)
-word_ok true x r y h = inl (refl, same_ok h)
-word_ok false x r y h = inr h

@@ -20,7 +20,7 @@ use Rattle.tables.specs.declared.words.Key.{Key}
 use Rattle.tables.specs.declared.words.Key.TheVariants as keys
 use Rattle.tables.specs.Chain.{then, lift}
 use Rattle.tables.specs.Words.{key_in, kind_in, allowed, kind_word, key_word}
-use Rattle.tables.specs.Args.{Numbers, none, one, two, values_in}
+use Rattle.tables.specs.Shapes.{of_one, of_two}
 use Rattle.tables.specs.Checks.{form, room, place, has, may_head, may_stand}
 use Rattle.tables.specs.Plain.{Sketch, Fact, begin, name, under, node, rule, end}
 use Rattle.tables.specs.Judge.{judged, keyed_line}
@@ -96,11 +96,11 @@ line_given k d n p ps f c a h = (
 value_given : (n v : ℕ) → v < 1000000000 → value_in (number n (decimal v)) ≡ Ok v
 value_given n v h = ap (or_number n) (number_decimal v h)
 
-two_given : (n a b : ℕ) → a < 1000000000 → b < 1000000000 → values_in (two (number n (decimal a)) (number n (decimal b))) ≡ Ok (a, b)
-two_given n a b h g = then_at (value_in (number n (decimal a))) a _ (value_given n a h) ∙ then_at (value_in (number n (decimal b))) b (λ y. Ok (a, y)) (value_given n b g)
+two_given : (n a b : ℕ) (g : ℕ → ℕ → Node) → a < 1000000000 → b < 1000000000 → of_two g (number n (decimal a)) (number n (decimal b)) ≡ Ok (g a b)
+two_given n a b g h k = then_at (value_in (number n (decimal a))) a _ (value_given n a h) ∙ then_at (value_in (number n (decimal b))) b (λ y. Ok (g a y)) (value_given n b k)
 
-one_given : (n a : ℕ) → a < 1000000000 → values_in (one (number n (decimal a))) ≡ Ok (a, 0)
-one_given n a h = then_at (value_in (number n (decimal a))) a (λ x. Ok (x, 0)) (value_given n a h)
+one_given : (n a : ℕ) (g : ℕ → Node) → a < 1000000000 → of_one g (number n (decimal a)) ≡ Ok (g a)
+one_given n a g h = then_at (value_in (number n (decimal a))) a (λ x. Ok (g x)) (value_given n a h)
 
 pub begin_given : (d : Sketch) (n : ℕ) → allowed d.stage keys.Grammar ≡ true → (judged d n (keyed (codes "grammar") (codes "1" ∷ [])) ≡ Ok begin) × (lacks 10 (keyed (codes "grammar") (codes "1" ∷ [])) ≡ true)
 begin_given d n a = line_given keys.Grammar d n (codes "1") [] begin ((refl, refl), tt) a refl
@@ -118,7 +118,8 @@ pub under_given : (d : Sketch) (n : ℕ) (u : Under) → allowed d.stage keys.Un
     → (judged d n (under_text u) ≡ Ok (under u.0 u.1)) × (lacks 10 (under_text u) ≡ true)
 under_given d n u a st sh may =
     line_given keys.Under d n (decimal u.0) (decimal u.1 ∷ []) (under u.0 u.1) (clean_decimal u.0 st, (clean_decimal u.1 sh, tt)) a
-    (lift_at (values_in (two (number n (decimal u.0)) (number n (decimal u.1)))) (u.0, u.1) _ (two_given n u.0 u.1 st sh)
+    (lift_at (value_in (number n (decimal u.0))) u.0 _ (value_given n u.0 st)
+    ∙ lift_at (value_in (number n (decimal u.1))) u.1 _ (value_given n u.1 sh)
     ∙ ap (λ b. then (place b n) (λ _. Ok (under u.0 u.1))) may)
 
 pub rule_given : (d : Sketch) (n : ℕ) (r : Ruled) → allowed d.stage keys.Rule ≡ true → length d.tables.bodies < 32 → r.1 < 1000000000 → is_spelling r.0 ≡ true → has r.0 d.tables.rules ≡ false → r.1 < length d.tables.nodes
@@ -134,7 +135,7 @@ rule_given d n r a few small formed new body =
 pub end_given : (d : Sketch) (n c : ℕ) → allowed d.stage keys.End ≡ true → c < 1000000000 → c ≡ length d.tables.bodies → (judged d n (end_text c) ≡ Ok end) × (lacks 10 (end_text c) ≡ true)
 end_given d n c a small same =
     line_given keys.End d n (decimal c) [] end (clean_decimal c small, tt) a
-    (lift_at (values_in (one (number n (decimal c)))) (c, 0) _ (one_given n c small)
+    (lift_at (value_in (number n (decimal c))) c _ (value_given n c small)
     ∙ ap (λ b. then (place b n) (λ _. Ok end)) (eq-eqb _ _ same))
 
 -- the numbers of a node are small
@@ -149,29 +150,34 @@ Small (Seq a b) = (a < 1000000000) × (b < 1000000000)
 Small (Star a) = a < 1000000000
 
 -- a node's line, once its fields are taken
-node_ends : (d : Sketch) (n : ℕ) (g : ℕ → ℕ → Node) (ns : Numbers) (a b : ℕ) → values_in ns ≡ Ok (a, b) → length d.tables.nodes < 256 → may_stand d.tables.names (length d.tables.nodes) (g a b) ≡ true
-    → then (room 256 (length d.tables.nodes) n) (λ _. then (lift (values_in ns)) (λ v. then (place (may_stand d.tables.names (length d.tables.nodes) (g v.0 v.1)) n) (λ _. Ok (node (g v.0 v.1) n)))) ≡ Ok (node (g a b) n)
-node_ends d n g ns a b e few may =
-    ap (λ c. then (cond c (Ok tt) (Err (Full n))) (λ _. then (lift (values_in ns)) (λ v. then (place (may_stand d.tables.names (length d.tables.nodes) (g v.0 v.1)) n) (λ _. Ok (node (g v.0 v.1) n))))) (lt-ltb _ _ few)
-    ∙ ap (λ z. then (lift z) (λ v. then (place (may_stand d.tables.names (length d.tables.nodes) (g v.0 v.1)) n) (λ _. Ok (node (g v.0 v.1) n)))) e
-    ∙ ap (λ c. then (place c n) (λ _. Ok (node (g a b) n))) may
+node_ends : (d : Sketch) (n : ℕ) (r : Result Node LineFault) (x : Node) → r ≡ Ok x → length d.tables.nodes < 256 → may_stand d.tables.names (length d.tables.nodes) x ≡ true
+    → then (room 256 (length d.tables.nodes) n) (λ _. then (lift r) (λ y. then (place (may_stand d.tables.names (length d.tables.nodes) y) n) (λ _. Ok (node y n)))) ≡ Ok (node x n)
+node_ends d n r x e few may =
+    then_at (room 256 (length d.tables.nodes) n) tt _ (ap (λ b. cond b (Ok tt) (Err (Full n))) (lt-ltb _ _ few))
+    ∙ lift_at r x _ e
+    ∙ ap (λ b. then (place b n) (λ _. Ok (node x n))) may
 
 pub node_given : (d : Sketch) (n : ℕ) (x : Node) → allowed d.stage keys.Node ≡ true → Small x → length d.tables.nodes < 256 → may_stand d.tables.names (length d.tables.nodes) x ≡ true
     → (judged d n (node_text x) ≡ Ok (node x n)) × (lacks 10 (node_text x) ≡ true)
-node_given d n Nothing a small few may = line_given keys.Node d n (codes "none") [] (node Nothing n) ((refl, refl), tt) a (node_ends d n (λ _ _. Nothing) none 0 0 refl few may)
-node_given d n Empty a small few may = line_given keys.Node d n (codes "empty") [] (node Empty n) ((refl, refl), tt) a (node_ends d n (λ _ _. Empty) none 0 0 refl few may)
-node_given d n (Simple m) a small few may =
-    line_given keys.Node d n (codes "simple") (decimal m ∷ []) (node (Simple m) n) ((refl, refl), (clean_decimal m small, tt)) a (node_ends d n (λ p _. Simple p) (one (number n (decimal m))) m 0 (one_given n m small) few may)
-node_given d n (Rule m) a small few may =
-    line_given keys.Node d n (codes "rule") (decimal m ∷ []) (node (Rule m) n) ((refl, refl), (clean_decimal m small, tt)) a (node_ends d n (λ p _. Rule p) (one (number n (decimal m))) m 0 (one_given n m small) few may)
-node_given d n (Star m) a small few may =
-    line_given keys.Node d n (codes "star") (decimal m ∷ []) (node (Star m) n) ((refl, refl), (clean_decimal m small, tt)) a (node_ends d n (λ p _. Star p) (one (number n (decimal m))) m 0 (one_given n m small) few may)
-node_given d n (Element p q) a small few may =
-    line_given keys.Node d n (codes "element") (decimal p ∷ decimal q ∷ []) (node (Element p q) n) ((refl, refl), (clean_decimal p small.0, (clean_decimal q small.1, tt))) a
-    (node_ends d n Element (two (number n (decimal p)) (number n (decimal q))) p q (two_given n p q small.0 small.1) few may)
-node_given d n (Union p q) a small few may =
-    line_given keys.Node d n (codes "union") (decimal p ∷ decimal q ∷ []) (node (Union p q) n) ((refl, refl), (clean_decimal p small.0, (clean_decimal q small.1, tt))) a
-    (node_ends d n Union (two (number n (decimal p)) (number n (decimal q))) p q (two_given n p q small.0 small.1) few may)
-node_given d n (Seq p q) a small few may =
-    line_given keys.Node d n (codes "seq") (decimal p ∷ decimal q ∷ []) (node (Seq p q) n) ((refl, refl), (clean_decimal p small.0, (clean_decimal q small.1, tt))) a
-    (node_ends d n Seq (two (number n (decimal p)) (number n (decimal q))) p q (two_given n p q small.0 small.1) few may)
+node_given d n x a small few may = go x small may
+  where
+    none : (y : Node) (w : List ℕ) → keyed_line keys.Node d.tables n (w ∷ []) ≡ Ok (node y n) → Clean w → (judged d n (keyed (codes "node") (w ∷ [])) ≡ Ok (node y n)) × (lacks 10 (keyed (codes "node") (w ∷ [])) ≡ true)
+    none y w h c = line_given keys.Node d n w [] (node y n) (c, tt) a h
+
+    one : (y : Node) (w : List ℕ) (p : ℕ) → keyed_line keys.Node d.tables n (w ∷ decimal p ∷ []) ≡ Ok (node y n) → Clean w → p < 1000000000
+        → (judged d n (keyed (codes "node") (w ∷ decimal p ∷ [])) ≡ Ok (node y n)) × (lacks 10 (keyed (codes "node") (w ∷ decimal p ∷ [])) ≡ true)
+    one y w p h c l = line_given keys.Node d n w (decimal p ∷ []) (node y n) (c, (clean_decimal p l, tt)) a h
+
+    two : (y : Node) (w : List ℕ) (p q : ℕ) → keyed_line keys.Node d.tables n (w ∷ decimal p ∷ decimal q ∷ []) ≡ Ok (node y n) → Clean w → p < 1000000000 → q < 1000000000
+        → (judged d n (keyed (codes "node") (w ∷ decimal p ∷ decimal q ∷ [])) ≡ Ok (node y n)) × (lacks 10 (keyed (codes "node") (w ∷ decimal p ∷ decimal q ∷ [])) ≡ true)
+    two y w p q h c l m = line_given keys.Node d n w (decimal p ∷ decimal q ∷ []) (node y n) (c, (clean_decimal p l, (clean_decimal q m, tt))) a h
+
+    go : (y : Node) → Small y → may_stand d.tables.names (length d.tables.nodes) y ≡ true → (judged d n (node_text y) ≡ Ok (node y n)) × (lacks 10 (node_text y) ≡ true)
+    go Nothing s m = none Nothing (codes "none") (node_ends d n (Ok Nothing) Nothing refl few m) (refl, refl)
+    go Empty s m = none Empty (codes "empty") (node_ends d n (Ok Empty) Empty refl few m) (refl, refl)
+    go (Simple p) s m = one (Simple p) (codes "simple") p (node_ends d n _ (Simple p) (one_given n p Simple s) few m) (refl, refl) s
+    go (Rule p) s m = one (Rule p) (codes "rule") p (node_ends d n _ (Rule p) (one_given n p Rule s) few m) (refl, refl) s
+    go (Star p) s m = one (Star p) (codes "star") p (node_ends d n _ (Star p) (one_given n p Star s) few m) (refl, refl) s
+    go (Element p q) s m = two (Element p q) (codes "element") p q (node_ends d n _ (Element p q) (two_given n p q Element s.0 s.1) few m) (refl, refl) s.0 s.1
+    go (Union p q) s m = two (Union p q) (codes "union") p q (node_ends d n _ (Union p q) (two_given n p q Union s.0 s.1) few m) (refl, refl) s.0 s.1
+    go (Seq p q) s m = two (Seq p q) (codes "seq") p q (node_ends d n _ (Seq p q) (two_given n p q Seq s.0 s.1) few m) (refl, refl) s.0 s.1

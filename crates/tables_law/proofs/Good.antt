@@ -15,7 +15,7 @@ use Rattle.tables.specs.declared.fault.ReadError.{ReadError}
 use Rattle.tables.specs.declared.draft.Mention.{Mention}
 use Rattle.tables.specs.declared.words.Key.{Key}
 use Rattle.tables.specs.declared.words.Key.TheVariants as keys
-use Rattle.tables.specs.Words.{order, allowed, node_of}
+use Rattle.tables.specs.Words.{order, allowed}
 use Rattle.tables.specs.Checks.{form, has, kind_at, may_head, may_stand}
 use Rattle.tables.specs.Plain.{Plain, Sketch, Fact, begin, name, under, node, rule, end, plain}
 use Rattle.tables.specs.Judge.{judged, keyed_line}
@@ -176,10 +176,10 @@ good_keyed keys.Under d n fs f g a h =
     subst (λ (x : Fact). Good (entered d x)) (sym s.3) (good_under d s.0 s.1 g (later_by (order d.stage) 2 a) s.4)
 good_keyed keys.Node d n fs f g a h =
     let s = node_said d.tables n fs f h in
-    subst (λ (x : Fact). Good (entered d x)) (sym s.6) (good_node d (node_of s.0 s.1 s.2) n g s.7 s.8)
+    subst (λ (x : Fact). Good (entered d x)) (sym s.2) (good_node d s.0 n g s.3 s.4)
 good_keyed keys.Rule d n fs f g a h =
     let s = rule_said d.tables n fs f h in
-    subst (λ (x : Fact). Good (entered d x)) (sym s.5) (good_rule d s.0 s.1 n g s.6 s.7 s.8 s.9)
+    subst (λ (x : Fact). Good (entered d x)) (sym s.3) (good_rule d s.0 s.1 n g s.4 s.5 s.6 s.7)
 good_keyed keys.End d n fs f g a h =
     let s = end_said d.tables n fs f h in
     subst (λ (x : Fact). Good (entered d x)) (sym s.2) (good_end d g)

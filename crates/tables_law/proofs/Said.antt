@@ -1,26 +1,27 @@
 -- What an accepted line says, by its key.
-use Rattle.std.proofs.Common.{◌≡◌, ℕ, ◌<◌, true, false, cond, eqb, ltb, List, [], ◌∷◌, length, Some, None, Ok, codes, Option, Result, sym, refl, ap, ◌∙◌, ⊎_elim}
+use Rattle.std.proofs.Common.{◌≡◌, ℕ, ◌<◌, Bool, true, false, cond, eqb, ltb, List, [], ◌∷◌, length, Some, None, Ok, codes, decimal, Option, Result, sym, refl, ap, ◌∙◌}
 use Rattle.std.specs.Str.{bytes_eq}
 use Rattle.std.proofs.lemmas.Slice.Eq.{bytes_eq-Decides}
 use Rattle.std.proofs.lemmas.Bool.{ltb-true, eqb-true}
 use Rattle.model.specs.declared.names.Kind.{Kind}
 use Rattle.model.specs.declared.names.Kind.TheVariants as kinds
+use Rattle.model.specs.declared.nodes.Node.{Node}
+use Rattle.model.specs.declared.nodes.Node.TheVariants as nodes
+use Rattle.text.specs.declared.fault.LineFault.{LineFault}
 use Rattle.text.specs.Fields.{View, key, number, spelling, value_in, or_number, spelling_in}
 use Rattle.text.specs.Forms.{number_of, is_spelling}
 use Rattle.tables.specs.declared.words.Key.{Key}
 use Rattle.tables.specs.declared.words.Key.TheVariants as keys
-use Rattle.tables.specs.declared.words.Shape.{Shape}
-use Rattle.tables.specs.declared.words.Shape.TheVariants as shapes
-use Rattle.tables.specs.declared.words.Arity.{Arity}
-use Rattle.tables.specs.declared.words.Arity.TheVariants as arity
-use Rattle.tables.specs.Words.{key_in, kind_in, version_in, shape_in, arity_of, node_of, allowed, kind_word, key_word, shape_word}
-use Rattle.tables.specs.Args.{Numbers, one, two, numbers_in, values_in}
+use Rattle.tables.specs.Words.{key_in, kind_in, version_in, allowed, kind_word, key_word}
+use Rattle.tables.specs.Shapes.{with_none, with_one, with_two, node_in}
 use Rattle.text.specs.Cursors.{line_parts}
 use Rattle.tables.specs.Checks.{form, has, may_head, may_stand, room, place, fresh}
 use Rattle.tables.specs.Plain.{Plain, Sketch, Fact, begin, name, under, node, rule, end}
 use Rattle.tables.specs.Judge.{begin_line, name_line, under_line, node_line, rule_line, end_line, keyed_line, judged}
+use Rattle.tables_law.specs.Source.{node_fields}
+use Rattle.text_law.proofs.Number.{decimal_said}
 use Rattle.text_law.proofs.Cases.{no_ok, same_ok}
-use Rattle.tables_law.proofs.Chains.{then_ok, lifted, holds_ok, fails_ok, word_ok}
+use Rattle.tables_law.proofs.Chains.{then_ok, lifted, holds_ok, fails_ok}
 
 -- a number field that has a value
 value_by : (n : ℕ) (o : Option ℕ) (v : ℕ) → or_number n o ≡ Ok v → o ≡ Some v
@@ -30,9 +31,17 @@ value_by n (Some x) v h = ap Some (same_ok h)
 pub value_ok : (n : ℕ) (bs : List ℕ) (v : ℕ) → value_in (number n bs) ≡ Ok v → number_of bs ≡ Some v
 value_ok n bs v h = value_by n (number_of bs) v h
 
+-- a field that is the word goes on with it, and another with the next words
+by_word : {X : Type 0} (a w : List ℕ) (p q y : X) (P : Type 0) → cond (bytes_eq a w) p q ≡ y → (a ≡ w → p ≡ y → P) → (q ≡ y → P) → P
+by_word a w p q y P h here on = go (bytes_eq a w) refl h
+  where
+    go : (b : Bool) → bytes_eq a w ≡ b → cond b p q ≡ y → P
+    go true e k = here ((bytes_eq-Decides a w).0 e) k
+    go false e k = on k
+
 -- one of several words
 step : {X E : Type 0} (W : X → List ℕ) (a : List ℕ) (x : X) (r : Result X E) (y : X) → cond (bytes_eq a (W x)) (Ok x) r ≡ Ok y → (r ≡ Ok y → a ≡ W y) → a ≡ W y
-step W a x r y h g = ⊎_elim (λ e. (bytes_eq-Decides a (W x)).0 e.0 ∙ ap W e.1) g (word_ok (bytes_eq a (W x)) x r y h)
+step W a x r y h on = by_word a (W x) (Ok x) r (Ok y) (a ≡ W y) h (λ i k. i ∙ ap W (same_ok k)) on
 
 pub kind_said : (n : ℕ) (a : List ℕ) (k : Kind) → kind_in (key n a) ≡ Ok k → a ≡ kind_word k
 kind_said n a k h = step kind_word a kinds.Simple _ k h (λ h₁. step kind_word a kinds.Element _ k h₁ (λ h₂. absurd (no_ok h₂)))
@@ -42,41 +51,49 @@ key_said n a k h =
     step key_word a keys.Grammar _ k h (λ h₁. step key_word a keys.Name _ k h₁ (λ h₂. step key_word a keys.Under _ k h₂ (λ h₃.
     step key_word a keys.Node _ k h₃ (λ h₄. step key_word a keys.Rule _ k h₄ (λ h₅. step key_word a keys.End _ k h₅ (λ h₆. absurd (no_ok h₆)))))))
 
-pub shape_said : (n : ℕ) (a : List ℕ) (s : Shape) → shape_in (key n a) ≡ Ok s → a ≡ shape_word s
-shape_said n a s h =
-    step shape_word a shapes.Nothing _ s h (λ h₁. step shape_word a shapes.Empty _ s h₁ (λ h₂. step shape_word a shapes.Simple _ s h₂ (λ h₃. step shape_word a shapes.Rule _ s h₃ (λ h₄.
-    step shape_word a shapes.Element _ s h₄ (λ h₅. step shape_word a shapes.Union _ s h₅ (λ h₆. step shape_word a shapes.Seq _ s h₆ (λ h₇. step shape_word a shapes.Star _ s h₇ (λ h₈. absurd (no_ok h₈)))))))))
+-- a number field that has a value is the writing of it
+number_said : (n : ℕ) (p : List ℕ) (v : ℕ) → value_in (number n p) ≡ Ok v → p ≡ decimal v
+number_said n p v h = (decimal_said p v (value_ok n p v h)).0
 
--- the numbers of a line with their values
-abbrev pub Numbered : Arity → List (List ℕ) → ℕ → ℕ → Type 0
-Numbered arity.Zero fs a b = (fs ≡ []) × (a ≡ 0) × (b ≡ 0)
-Numbered arity.One fs a b = (p : List ℕ) × (fs ≡ p ∷ []) × (number_of p ≡ Some a) × (b ≡ 0)
-Numbered arity.Two fs a b = (p : List ℕ) × (q : List ℕ) × (fs ≡ p ∷ q ∷ []) × (number_of p ≡ Some a) × (number_of q ≡ Some b)
+-- a node's line after its word: nothing, one number, or two
+none_said : (x : Node) (n : ℕ) (fs : List (List ℕ)) (r : Result Node LineFault) (y : Node) → with_none x n fs ≡ Ok r → r ≡ Ok y → (fs ≡ []) × (x ≡ y)
+none_said x n [] r y h e = (refl, same_ok (same_ok h ∙ e))
+none_said x n (p ∷ fs) r y h e = absurd (no_ok h)
 
--- from one value, and from two
-one_valued : (n : ℕ) (p : List ℕ) (v : ℕ × ℕ) → values_in (one (number n p)) ≡ Ok v → (number_of p ≡ Some v.0) × (v.1 ≡ 0)
-one_valued n p v h =
-    let x = then_ok (value_in (number n p)) _ v h in
-    let e : (x.0, 0) ≡ v = same_ok x.2 in
-    (value_ok n p _ x.1 ∙ ap (λ w. Some w.0) e, sym (ap (λ w. w.1) e))
+one_said : (g : ℕ → Node) (n : ℕ) (fs : List (List ℕ)) (r : Result Node LineFault) (y : Node) → with_one g n fs ≡ Ok r → r ≡ Ok y → (a : ℕ) × (fs ≡ decimal a ∷ []) × (g a ≡ y)
+one_said g n [] r y h e = absurd (no_ok h)
+one_said g n (p ∷ []) r y h e =
+    let v = then_ok (value_in (number n p)) _ y (same_ok h ∙ e) in
+    (v.0, ap (λ w. w ∷ []) (number_said n p v.0 v.1), same_ok v.2)
+one_said g n (p ∷ q ∷ fs) r y h e = absurd (no_ok h)
 
-two_valued : (n : ℕ) (p q : List ℕ) (v : ℕ × ℕ) → values_in (two (number n p) (number n q)) ≡ Ok v → (number_of p ≡ Some v.0) × (number_of q ≡ Some v.1)
-two_valued n p q v h =
-    let x = then_ok (value_in (number n p)) _ v h in
-    let y = then_ok (value_in (number n q)) _ v x.2 in
-    let e : (x.0, y.0) ≡ v = same_ok y.2 in
-    (value_ok n p _ x.1 ∙ ap (λ w. Some w.0) e, value_ok n q _ y.1 ∙ ap (λ w. Some w.1) e)
+two_said : (g : ℕ → ℕ → Node) (n : ℕ) (fs : List (List ℕ)) (r : Result Node LineFault) (y : Node) → with_two g n fs ≡ Ok r → r ≡ Ok y → (a : ℕ) × (b : ℕ) × (fs ≡ decimal a ∷ decimal b ∷ []) × (g a b ≡ y)
+two_said g n [] r y h e = absurd (no_ok h)
+two_said g n (p ∷ []) r y h e = absurd (no_ok h)
+two_said g n (p ∷ q ∷ []) r y h e =
+    let v = then_ok (value_in (number n p)) _ y (same_ok h ∙ e) in
+    let w = then_ok (value_in (number n q)) _ y v.2 in
+    (v.0, w.0, ap (λ l. l ∷ q ∷ []) (number_said n p v.0 v.1) ∙ ap (λ l. decimal v.0 ∷ l ∷ []) (number_said n q w.0 w.1), same_ok w.2)
+two_said g n (p ∷ q ∷ t ∷ fs) r y h e = absurd (no_ok h)
 
-pub numbers_said : (r : Arity) (n : ℕ) (fs : List (List ℕ)) (ns : Numbers) (v : ℕ × ℕ) → numbers_in r n fs ≡ Ok ns → values_in ns ≡ Ok v → Numbered r fs v.0 v.1
-numbers_said arity.Zero n [] ns v h e = let w : (0, 0) ≡ v = same_ok (ap values_in (same_ok h) ∙ e) in (refl, sym (ap (λ u. u.0) w), sym (ap (λ u. u.1) w))
-numbers_said arity.Zero n (p ∷ fs) ns v h e = absurd (no_ok h)
-numbers_said arity.One n [] ns v h e = absurd (no_ok h)
-numbers_said arity.One n (p ∷ []) ns v h e = let w = one_valued n p v (ap values_in (same_ok h) ∙ e) in (p, refl, w.0, w.1)
-numbers_said arity.One n (p ∷ q ∷ fs) ns v h e = absurd (no_ok h)
-numbers_said arity.Two n [] ns v h e = absurd (no_ok h)
-numbers_said arity.Two n (p ∷ []) ns v h e = absurd (no_ok h)
-numbers_said arity.Two n (p ∷ q ∷ []) ns v h e = let w = two_valued n p q v (ap values_in (same_ok h) ∙ e) in (p, q, refl, w.0, w.1)
-numbers_said arity.Two n (p ∷ q ∷ r ∷ fs) ns v h e = absurd (no_ok h)
+-- the fields of a node's line are the node's
+node_in_said : (n : ℕ) (a : List ℕ) (fs : List (List ℕ)) (r : Result Node LineFault) (x : Node) → node_in (key n a) n fs ≡ Ok r → r ≡ Ok x → a ∷ fs ≡ node_fields x
+node_in_said n a fs r x h e =
+    let P : Type 0 = a ∷ fs ≡ node_fields x in
+    let none : (y : Node) (w : List ℕ) → node_fields y ≡ w ∷ [] → a ≡ w → with_none y n fs ≡ Ok r → P =
+    λ y w form i k. let o = none_said y n fs r x k e in ap (λ l. l ∷ fs) i ∙ ap (λ l. w ∷ l) o.0 ∙ sym form ∙ ap node_fields o.1 in
+    let one : (g : ℕ → Node) (w : List ℕ) → ((u : ℕ) → node_fields (g u) ≡ w ∷ decimal u ∷ []) → a ≡ w → with_one g n fs ≡ Ok r → P =
+    λ g w form i k. let o = one_said g n fs r x k e in ap (λ l. l ∷ fs) i ∙ ap (λ l. w ∷ l) o.1 ∙ sym (form o.0) ∙ ap node_fields o.2 in
+    let two : (g : ℕ → ℕ → Node) (w : List ℕ) → ((u v : ℕ) → node_fields (g u v) ≡ w ∷ decimal u ∷ decimal v ∷ []) → a ≡ w → with_two g n fs ≡ Ok r → P =
+    λ g w form i k. let o = two_said g n fs r x k e in ap (λ l. l ∷ fs) i ∙ ap (λ l. w ∷ l) o.2 ∙ sym (form o.0 o.1) ∙ ap node_fields o.3 in
+    by_word a (codes "none") _ _ _ P h (none nodes.Nothing _ refl) (λ h.
+    by_word a (codes "empty") _ _ _ P h (none nodes.Empty _ refl) (λ h.
+    by_word a (codes "simple") _ _ _ P h (one nodes.Simple _ (λ u. refl)) (λ h.
+    by_word a (codes "rule") _ _ _ P h (one nodes.Rule _ (λ u. refl)) (λ h.
+    by_word a (codes "element") _ _ _ P h (two nodes.Element _ (λ u v. refl)) (λ h.
+    by_word a (codes "union") _ _ _ P h (two nodes.Union _ (λ u v. refl)) (λ h.
+    by_word a (codes "seq") _ _ _ P h (two nodes.Seq _ (λ u v. refl)) (λ h.
+    by_word a (codes "star") _ _ _ P h (one nodes.Star _ (λ u. refl)) (λ h. absurd (no_ok h)))))))))
 
 -- a spelling field that has a spelling
 spelling_ok : (n : ℕ) (b s : List ℕ) → spelling_in (spelling n b) ≡ Ok s → (is_spelling s ≡ true) × (b ≡ s)
@@ -102,24 +119,26 @@ name_said t n (a ∷ b ∷ []) f h =
     (k.0, s.0, ap (λ w. w ∷ b ∷ []) word ∙ ap (λ w. kind_word k.0 ∷ w ∷ []) sp.1, sym (same_ok u.2), ltb-true _ _ (holds_ok _ _ _ _ r.1).0, sp.0, (fails_ok _ _ _ _ u.1).0)
 name_said t n (a ∷ b ∷ c ∷ fs) f h = absurd (no_ok h)
 
-pub under_said : (t : Plain) (n : ℕ) (fs : List (List ℕ)) (f : Fact) → under_line t n fs ≡ Ok f → (a : ℕ) × (b : ℕ) × Numbered arity.Two fs a b × (f ≡ under a b) × (may_head t.names a b ≡ true)
-under_said t n fs f h =
-    let ns = lifted (numbers_in arity.Two n fs) _ f h in
-    let v = lifted (values_in ns.0) _ f ns.2 in
-    let p = then_ok (place (may_head t.names v.0.0 v.0.1) n) _ f v.2 in
-    (v.0.0, v.0.1, numbers_said arity.Two n fs ns.0 v.0 ns.1 v.1, sym (same_ok p.2), (holds_ok _ _ _ _ p.1).0)
+pub under_said : (t : Plain) (n : ℕ) (fs : List (List ℕ)) (f : Fact) → under_line t n fs ≡ Ok f → (a : ℕ) × (b : ℕ) × (fs ≡ decimal a ∷ decimal b ∷ []) × (f ≡ under a b) × (may_head t.names a b ≡ true)
+under_said t n [] f h = absurd (no_ok h)
+under_said t n (p ∷ []) f h = absurd (no_ok h)
+under_said t n (p ∷ q ∷ []) f h =
+    let a = lifted (value_in (number n p)) _ f h in
+    let b = lifted (value_in (number n q)) _ f a.2 in
+    let m = then_ok (place (may_head t.names a.0 b.0) n) _ f b.2 in
+    (a.0, b.0, ap (λ w. w ∷ q ∷ []) (number_said n p a.0 a.1) ∙ ap (λ w. decimal a.0 ∷ w ∷ []) (number_said n q b.0 b.1), sym (same_ok m.2), (holds_ok _ _ _ _ m.1).0)
+under_said t n (p ∷ q ∷ r ∷ fs) f h = absurd (no_ok h)
 
-pub node_said : (t : Plain) (n : ℕ) (fs : List (List ℕ)) (f : Fact) → node_line t n fs ≡ Ok f → (s : Shape) × (a : ℕ) × (b : ℕ) × (rest : List (List ℕ)) × (fs ≡ shape_word s ∷ rest) × Numbered (arity_of s) rest a b × (f ≡ node (node_of s a b) n) × (length t.nodes < 256) × (may_stand t.names (length t.nodes) (node_of s a b) ≡ true)
+pub node_said : (t : Plain) (n : ℕ) (fs : List (List ℕ)) (f : Fact) → node_line t n fs ≡ Ok f → (x : Node) × (fs ≡ node_fields x) × (f ≡ node x n) × (length t.nodes < 256) × (may_stand t.names (length t.nodes) x ≡ true)
 node_said t n [] f h = absurd (no_ok h)
 node_said t n (w ∷ fs) f h =
-    let s = lifted (shape_in (key n w)) _ f h in
-    let ns = lifted (numbers_in (arity_of s.0) n fs) _ f s.2 in
-    let r = then_ok (room 256 (length t.nodes) n) _ f ns.2 in
-    let v = lifted (values_in ns.0) _ f r.2 in
-    let p = then_ok (place (may_stand t.names (length t.nodes) (node_of s.0 v.0.0 v.0.1)) n) _ f v.2 in
-    (s.0, v.0.0, v.0.1, fs, ap (λ x. x ∷ fs) (shape_said n w s.0 s.1), numbers_said (arity_of s.0) n fs ns.0 v.0 ns.1 v.1, sym (same_ok p.2), ltb-true _ _ (holds_ok _ _ _ _ r.1).0, (holds_ok _ _ _ _ p.1).0)
+    let r = lifted (node_in (key n w) n fs) _ f h in
+    let few = then_ok (room 256 (length t.nodes) n) _ f r.2 in
+    let x = lifted r.0 _ f few.2 in
+    let m = then_ok (place (may_stand t.names (length t.nodes) x.0) n) _ f x.2 in
+    (x.0, node_in_said n w fs r.0 x.0 r.1 x.1, sym (same_ok m.2), ltb-true _ _ (holds_ok _ _ _ _ few.1).0, (holds_ok _ _ _ _ m.1).0)
 
-pub rule_said : (t : Plain) (n : ℕ) (fs : List (List ℕ)) (f : Fact) → rule_line t n fs ≡ Ok f → (s : List ℕ) × (b : ℕ) × (p : List ℕ) × (fs ≡ s ∷ p ∷ []) × (number_of p ≡ Some b) × (f ≡ rule s b n) × (length t.bodies < 32) × (is_spelling s ≡ true) × (has s t.rules ≡ false) × (b < length t.nodes)
+pub rule_said : (t : Plain) (n : ℕ) (fs : List (List ℕ)) (f : Fact) → rule_line t n fs ≡ Ok f → (s : List ℕ) × (b : ℕ) × (fs ≡ s ∷ decimal b ∷ []) × (f ≡ rule s b n) × (length t.bodies < 32) × (is_spelling s ≡ true) × (has s t.rules ≡ false) × (b < length t.nodes)
 rule_said t n [] f h = absurd (no_ok h)
 rule_said t n (a ∷ []) f h = absurd (no_ok h)
 rule_said t n (a ∷ p ∷ []) f h =
@@ -129,16 +148,16 @@ rule_said t n (a ∷ p ∷ []) f h =
     let u = lifted (fresh n s.0 t.rules) _ f s.2 in
     let q = then_ok (place (ltb v.0 (length t.nodes)) n) _ f u.2 in
     let sp = spelling_ok n a s.0 s.1 in
-    (s.0, v.0, p, ap (λ w. w ∷ p ∷ []) sp.1, value_ok n p v.0 v.1, sym (same_ok q.2), ltb-true _ _ (holds_ok _ _ _ _ r.1).0, sp.0, (fails_ok _ _ _ _ u.1).0, ltb-true _ _ (holds_ok _ _ _ _ q.1).0)
+    (s.0, v.0, ap (λ w. w ∷ p ∷ []) sp.1 ∙ ap (λ w. s.0 ∷ w ∷ []) (number_said n p v.0 v.1), sym (same_ok q.2), ltb-true _ _ (holds_ok _ _ _ _ r.1).0, sp.0, (fails_ok _ _ _ _ u.1).0, ltb-true _ _ (holds_ok _ _ _ _ q.1).0)
 rule_said t n (a ∷ b ∷ c ∷ fs) f h = absurd (no_ok h)
 
-pub end_said : (t : Plain) (n : ℕ) (fs : List (List ℕ)) (f : Fact) → end_line t n fs ≡ Ok f → (a : ℕ) × Numbered arity.One fs a 0 × (f ≡ end) × (a ≡ length t.bodies)
-end_said t n fs f h =
-    let ns = lifted (numbers_in arity.One n fs) _ f h in
-    let v = lifted (values_in ns.0) _ f ns.2 in
-    let p = then_ok (place (eqb v.0.0 (length t.bodies)) n) _ f v.2 in
-    let m = numbers_said arity.One n fs ns.0 v.0 ns.1 v.1 in
-    (v.0.0, (m.0, m.1, m.2, refl), sym (same_ok p.2), eqb-true _ _ (holds_ok _ _ _ _ p.1).0)
+pub end_said : (t : Plain) (n : ℕ) (fs : List (List ℕ)) (f : Fact) → end_line t n fs ≡ Ok f → (a : ℕ) × (fs ≡ decimal a ∷ []) × (f ≡ end) × (a ≡ length t.bodies)
+end_said t n [] f h = absurd (no_ok h)
+end_said t n (p ∷ []) f h =
+    let a = lifted (value_in (number n p)) _ f h in
+    let m = then_ok (place (eqb a.0 (length t.bodies)) n) _ f a.2 in
+    (a.0, ap (λ w. w ∷ []) (number_said n p a.0 a.1), sym (same_ok m.2), eqb-true _ _ (holds_ok _ _ _ _ m.1).0)
+end_said t n (p ∷ q ∷ fs) f h = absurd (no_ok h)
 
 -- a line has a key that may stand there
 pub judged_said : (d : Sketch) (n : ℕ) (bs : List ℕ) (f : Fact) → judged d n bs ≡ Ok f → (v : View) × (fs : List (List ℕ)) × (k : Key) × (line_parts n bs ≡ Ok (v, fs)) × (key_in v ≡ Ok k) × (allowed d.stage k ≡ true) × (keyed_line k d.tables n fs ≡ Ok f)

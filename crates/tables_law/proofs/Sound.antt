@@ -9,23 +9,19 @@ use Rattle.text.specs.Fields.{View}
 use Rattle.text.specs.Cursors.{line_parts}
 use Rattle.text_law.specs.Writing.{written, keyed}
 use Rattle.text_law.proofs.Cut.{parts_said, written_lines, whole_said}
-use Rattle.text_law.proofs.Number.{decimal_said}
 use Rattle.tables.specs.declared.words.Key.{Key}
 use Rattle.tables.specs.declared.words.Key.TheVariants as keys
-use Rattle.tables.specs.declared.words.Shape.{Shape}
-use Rattle.tables.specs.declared.words.Shape.TheVariants as shapes
-use Rattle.tables.specs.declared.words.Arity.TheVariants as arity
 use Rattle.tables.specs.declared.words.Stage.{Stage}
 use Rattle.tables.specs.declared.words.Stage.TheVariants as stages
-use Rattle.tables.specs.Words.{order, allowed, key_in, arity_of, node_of, key_word, shape_word}
+use Rattle.tables.specs.Words.{order, allowed, key_in, key_word}
 use Rattle.tables.specs.Checks.{form, may_head}
 use Rattle.tables.specs.Plain.{Plain, Sketch, Fact, begin, name, under, node, rule, end}
 use Rattle.tables.specs.Judge.{judged, keyed_line}
 use Rattle.tables.specs.Read.{headed, entered, present, closed, read_lines, blank, read}
-use Rattle.tables_law.specs.Source.{Named, Under, Ruled, Source, name_text, under_text, node_fields, node_text, rule_text, end_text, sections, headless, spelling_of, rule_spelling, body_of, with_heads, GivenHeads, lines_from, grown, no_tables, tables_of, Writes}
+use Rattle.tables_law.specs.Source.{Named, Under, Ruled, Source, name_text, under_text, node_text, rule_text, end_text, sections, headless, spelling_of, rule_spelling, body_of, with_heads, GivenHeads, lines_from, grown, no_tables, tables_of, Writes}
 use Rattle.text_law.proofs.Cases.{same_ok, no_ok}
 use Rattle.tables_law.proofs.Chains.{then_ok, lifted, holds_ok}
-use Rattle.tables_law.proofs.Said.{Numbered, key_said, begin_said, name_said, under_said, node_said, rule_said, end_said, judged_said}
+use Rattle.tables_law.proofs.Said.{key_said, begin_said, name_said, under_said, node_said, rule_said, end_said, judged_said}
 use Rattle.tables_law.proofs.Good.{read_lawful}
 
 -- a line that has a key is the key and its fields
@@ -33,20 +29,6 @@ line_said : (n : ℕ) (bs : List ℕ) (v : View) (fs : List (List ℕ)) (k : Key
 line_said n bs v fs k h e =
     let p = parts_said n bs v fs h in
     p.1 ∙ ap (λ w. keyed w fs) (key_said n (before 61 bs) k (sym (ap key_in p.0) ∙ e))
-
-two_wrote : (rest : List (List ℕ)) (a b : ℕ) → Numbered arity.Two rest a b → rest ≡ decimal a ∷ decimal b ∷ []
-two_wrote rest a b m = m.2 ∙ ap (λ p. p ∷ m.1 ∷ []) (decimal_said m.0 a m.3).0 ∙ ap (λ q. decimal a ∷ q ∷ []) (decimal_said m.1 b m.4).0
-
--- the fields of a node
-node_wrote : (s : Shape) (rest : List (List ℕ)) (a b : ℕ) → Numbered (arity_of s) rest a b → shape_word s ∷ rest ≡ node_fields (node_of s a b)
-node_wrote shapes.Nothing rest a b m = ap (λ l. codes "none" ∷ l) m.0
-node_wrote shapes.Empty rest a b m = ap (λ l. codes "empty" ∷ l) m.0
-node_wrote shapes.Simple rest a b m = ap (λ l. codes "simple" ∷ l) m.1 ∙ ap (λ p. codes "simple" ∷ p ∷ []) (decimal_said m.0 a m.2).0
-node_wrote shapes.Rule rest a b m = ap (λ l. codes "rule" ∷ l) m.1 ∙ ap (λ p. codes "rule" ∷ p ∷ []) (decimal_said m.0 a m.2).0
-node_wrote shapes.Element rest a b m = ap (λ l. codes "element" ∷ l) (two_wrote rest a b m)
-node_wrote shapes.Union rest a b m = ap (λ l. codes "union" ∷ l) (two_wrote rest a b m)
-node_wrote shapes.Seq rest a b m = ap (λ l. codes "seq" ∷ l) (two_wrote rest a b m)
-node_wrote shapes.Star rest a b m = ap (λ l. codes "star" ∷ l) m.1 ∙ ap (λ p. codes "star" ∷ p ∷ []) (decimal_said m.0 a m.2).0
 
 -- what is still to come: sections that are past are empty
 pub record Rest (d : Sketch) (n : ℕ) (ls : List (List ℕ)) (t : Plain) : Type 0 where
@@ -161,7 +143,7 @@ sound_keyed keys.Under d n l fs f ls t o w a h r rec =
       us = u ∷ q.us;
       xs = q.xs;
       rs = q.rs;
-      wrote = ap (λ y. y ∷ ls) (w ∙ ap (keyed (codes "under")) (two_wrote fs s.0 s.1 s.2)) ∙ ap (λ z. under_text u ∷ z) (q.wrote ∙ ap (λ z. sections m z q.us q.xs q.rs) no);
+      wrote = ap (λ y. y ∷ ls) (w ∙ ap (keyed (codes "under")) s.2) ∙ ap (λ z. under_text u ∷ z) (q.wrote ∙ ap (λ z. sections m z q.us q.xs q.rs) no);
       gives = q.gives ∙ ap (λ z. grown (after d.tables (under s.0 s.1)) (n + 1 + 1) z q.us q.xs q.rs) no ∙ grown_under d.tables (n + 1) u q.us q.xs q.rs;
       heads = subst (λ (z : List Name). (may_head z s.0 s.1 ≡ true) × GivenHeads (headed z s.0 s.1) q.us) (sym (append-nil d.tables.names))
           (s.4, subst (λ (z : List Name). GivenHeads z q.us) (ap (λ z. headed d.tables.names s.0 s.1 ++ map headless z) no ∙ append-nil (headed d.tables.names s.0 s.1)) q.heads);
@@ -173,8 +155,8 @@ sound_keyed keys.Node d n l fs f ls t o w a h r rec =
     let s = node_said d.tables (n + 1) fs f h in
     let b = later_parts (order d.stage) 3 a in
     let low : order d.stage ≤ 3 = b.2 in
-    let x : Node = node_of s.0 s.1 s.2 in
-    let q = subst (λ (g : Fact). Onward d g n ls t) s.6 rec (omega arith) (omega arith) in
+    let x : Node = s.0 in
+    let q = subst (λ (g : Fact). Onward d g n ls t) s.2 rec (omega arith) (omega arith) in
     let no : q.ns ≡ [] = q.no_names (omega arith) in
     let nu : q.us ≡ [] = q.no_unders (omega arith) in
     let m = length d.tables.bodies in
@@ -183,7 +165,7 @@ sound_keyed keys.Node d n l fs f ls t o w a h r rec =
       us = [];
       xs = x ∷ q.xs;
       rs = q.rs;
-      wrote = ap (λ y. y ∷ ls) (w ∙ ap (keyed (codes "node")) (s.4 ∙ node_wrote s.0 s.3 s.1 s.2 s.5)) ∙ ap (λ z. node_text x ∷ z) (q.wrote ∙ ap (λ z. sections m z q.us q.xs q.rs) no ∙ ap (λ z. sections m [] z q.xs q.rs) nu);
+      wrote = ap (λ y. y ∷ ls) (w ∙ ap (keyed (codes "node")) s.1) ∙ ap (λ z. node_text x ∷ z) (q.wrote ∙ ap (λ z. sections m z q.us q.xs q.rs) no ∙ ap (λ z. sections m [] z q.xs q.rs) nu);
       gives = q.gives ∙ ap (λ z. grown (after d.tables (node x (n + 1))) (n + 1 + 1) z q.us q.xs q.rs) no ∙ ap (λ z. grown (after d.tables (node x (n + 1))) (n + 1 + 1) [] z q.xs q.rs) nu ∙ grown_node d.tables (n + 1) x (n + 1) q.xs q.rs;
       heads = tt;
       no_names = λ i. refl;
@@ -193,7 +175,7 @@ sound_keyed keys.Node d n l fs f ls t o w a h r rec =
 sound_keyed keys.Rule d n l fs f ls t o w a h r rec =
     let s = rule_said d.tables (n + 1) fs f h in
     let y : Ruled = (s.0, s.1) in
-    let q = subst (λ (g : Fact). Onward d g n ls t) s.5 rec (omega arith) (omega arith) in
+    let q = subst (λ (g : Fact). Onward d g n ls t) s.3 rec (omega arith) (omega arith) in
     let no : q.ns ≡ [] = q.no_names (omega arith) in
     let nu : q.us ≡ [] = q.no_unders (omega arith) in
     let nx : q.xs ≡ [] = q.no_nodes (omega arith) in
@@ -206,7 +188,7 @@ sound_keyed keys.Rule d n l fs f ls t o w a h r rec =
       us = [];
       xs = [];
       rs = y ∷ q.rs;
-      wrote = ap (λ z. z ∷ ls) (w ∙ ap (keyed (codes "rule")) (s.3 ∙ ap (λ z. s.0 ∷ z ∷ []) (decimal_said s.2 s.1 s.4).0)) ∙ ap (λ z. rule_text y ∷ z)
+      wrote = ap (λ z. z ∷ ls) (w ∙ ap (keyed (codes "rule")) s.2) ∙ ap (λ z. rule_text y ∷ z)
           (q.wrote ∙ ap (λ z. sections m z q.us q.xs q.rs) no ∙ ap (λ z. sections m [] z q.xs q.rs) nu ∙ ap (λ z. sections m [] [] z q.rs) nx ∙ ap (λ z. map rule_text q.rs ++ end_text z ∷ []) e);
       gives = q.gives ∙ ap (λ z. grown p (n + 1 + 1) z q.us q.xs q.rs) no ∙ ap (λ z. grown p (n + 1 + 1) [] z q.xs q.rs) nu ∙ ap (λ z. grown p (n + 1 + 1) [] [] z q.rs) nx ∙ grown_rule d.tables (n + 1) y q.rs;
       heads = tt;
@@ -223,7 +205,7 @@ sound_keyed keys.End d n l fs f ls t o w a h r rec =
       us = [];
       xs = [];
       rs = [];
-      wrote = ap (λ y. y ∷ ls) (w ∙ ap (keyed (codes "end")) (s.1.1 ∙ ap (λ z. z ∷ []) (decimal_said s.1.0 s.0 s.1.2).0 ∙ ap (λ z. decimal z ∷ []) c)) ∙ ap (λ z. end_text (length d.tables.bodies + 0) ∷ z) e.0;
+      wrote = ap (λ y. y ∷ ls) (w ∙ ap (keyed (codes "end")) (s.1 ∙ ap (λ z. decimal z ∷ []) c)) ∙ ap (λ z. end_text (length d.tables.bodies + 0) ∷ z) e.0;
       gives = sym e.1 ∙ sym (grown_none d.tables (n + 1));
       heads = tt;
       no_names = λ i. refl;
