@@ -1,5 +1,6 @@
 -- Chains: a row that is the same as another is in its chain.
 use Rattle.std.proofs.Common.{◌≡◌, ℕ, zero, suc, ◌+◌, ◌<◌, ◌≤◌, Bool, true, false, cond, ◌||◌, eqb, ◌≢◌, List, length, get_or, set, Some, None, Option, sym, refl, ap, ◌∙◌, subst, ⊎_elim, add-one, arith, below_more}
+use Rattle.std.proofs.Math.Bool.{or-false}
 use Rattle.std.proofs.lemmas.List.{get_or-set_same, get_or-set_other}
 use Rattle.std.proofs.lemmas.Bool.{cases_Bool, cases_eq, cond-true, cond-false, eq-eqb, eqb-true, ne_eqb, both_ways}
 use Rattle.model.specs.declared.rows.Row.{Row}
@@ -35,9 +36,8 @@ last_passes (suc n) p i is = ⊎_elim
     (λ (e : p n ≡ false). last_passes n p i (sym (cond-false (p n) (Some n) (last n p) e) ∙ is))
     (cases_Bool (p n))
 
-or_off : (x y : Bool) → y ≡ false → (x || y) ≡ x
-or_off true y f = refl
-or_off false y f = f
+or_off : (x : Bool) {y : Bool} → y ≡ false → (x || y) ≡ x
+or_off x e = ap (λ y. x || y) e ∙ or-false x
 
 -- nothing that passes is passed over
 last_skips : (n : ℕ) (p q : ℕ → Bool) → ((i : ℕ) → q i ≡ true → p i ≡ true) → some (up_to (last n p)) q ≡ some n q
@@ -46,7 +46,7 @@ last_skips (suc n) p q within = ⊎_elim
     (λ (e : p n ≡ true). ap (λ o. some (up_to o) q) (cond-true (p n) (Some n) (last n p) e))
     (λ (e : p n ≡ false).
     let fails : q n ≡ false = ⊎_elim (λ (t : q n ≡ true). elim (both_ways (p n) e (within n t)) [ ]) (λ f. f) (cases_Bool (q n)) in
-    ap (λ o. some (up_to o) q) (cond-false (p n) (Some n) (last n p) e) ∙ last_skips n p q within ∙ sym (or_off (some n q) (q n) fails))
+    ap (λ o. some (up_to o) q) (cond-false (p n) (Some n) (last n p) e) ∙ last_skips n p q within ∙ sym (or_off (some n q) fails))
     (cases_Bool (p n))
 
 -- the row number i is the same as the side
@@ -86,7 +86,7 @@ chain_link side rows links (Some j) i is ahead ok differs =
     let same : j ≡ i = cc in
     let lt : i < length rows = omega (arith, ahead.within) in
     last_ahead side rows i (slot_at rows i) (get_or links i None) (ahead.chained i is) (omega arith)
-    (sym (or_off (some i (same_at side rows)) (same_at side rows i) differs)
+    (sym (or_off (some i (same_at side rows)) differs)
     ∙ ap (λ k. some (suc k) (same_at side rows)) (sym same) ∙ ahead.left) (ok i lt)
 
 -- the links fall

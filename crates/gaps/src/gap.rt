@@ -39,18 +39,18 @@ pub fn find_gap(setting: &Setting<'_>, grounds: &Grounds<'_>, row: &Row) -> Opti
 {
     let derivatives = setting.machine.derivatives(row.left);
     'gap: {
-        for t in 0..setting.covers.names() {
-            if !setting.is_labelled(row.left, t) {
+        for name in 0..setting.covers.names() {
+            if !setting.is_labelled(row.left, name) {
                 continue;
             }
-            let pairs = setting.first_pairs(t, &row.right);
+            let pairs = setting.first_pairs(name, &row.right);
             for (i, derivative) in derivatives.iter().enumerate() {
-                for k in 0..subsets(setting.covers, t, derivative.0, pairs.len()) {
-                    if is_unshown(grounds, *derivative, &pairs, k) {
+                for subset in 0..subsets(setting.covers, name, derivative.0, pairs.len()) {
+                    if is_unshown(grounds, *derivative, &pairs, subset) {
                         break 'gap Some(Place {
-                            name: t,
+                            name,
                             derivative: i,
-                            subset: k,
+                            subset,
                         });
                     }
                 }

@@ -15,6 +15,7 @@ use model::rows::{Item, Row};
 use model::sets::StateSet;
 use records::fault::CallFault;
 use sides::setting::Setting;
+use text::fault::ensure;
 
 /// Refuses the row at a line if it is inconsistent, wide or has a gap.
 #[tactic(auto, unfolding(crate::specs::Judgement::row_fault))]
@@ -26,16 +27,15 @@ fn judge_row(
 ) -> Result<(), SheetFault>
     ensures { result ≡ refusal (row_fault (seen setting.now) (shown_on grounds.now) line row.now) }
 {
-    if setting.is_inconsistent(row) {
-        return Err(SheetFault::Inconsistent { line });
-    }
-    if setting.is_wide(row) {
-        return Err(SheetFault::Wide { line });
-    }
-    if find_gap(setting, grounds, row).is_some() {
-        return Err(SheetFault::Gap { line });
-    }
-    Ok(())
+    ensure(
+        !setting.is_inconsistent(row),
+        SheetFault::Inconsistent { line },
+    )?;
+    ensure(!setting.is_wide(row), SheetFault::Wide { line })?;
+    ensure(
+        find_gap(setting, grounds, row).is_none(),
+        SheetFault::Gap { line },
+    )
 }
 
 /// Refuses the first row that is at fault; row 0 stands at line 3.
@@ -65,9 +65,7 @@ pub fn judge_included(
 ) -> Result<(), SheetFault>
     ensures { result ≡ refusal (included_fault (seen setting.now) (at grounds.now.ledger.now) grounds.now.rules claim.left claim.right grounds.now.rows.now) }
 {
-    if !is_rooted(claim, grounds.rows) {
-        return Err(SheetFault::Root);
-    }
+    ensure(is_rooted(claim, grounds.rows), SheetFault::Root)?;
     judge_rows(setting, grounds)
 }
 
@@ -83,9 +81,8 @@ pub fn judge_excluded(
     ensures { result ≡ (if nat_lt (length items.now) (length sets.old) then refusal (excluded_fault (seen setting.now) claim.left claim.right items.now) else Err no_memory) }
 {
     let set = hedge_states(setting, items, sets).ok_or(CallFault::Room { line: 0 })?;
-    if set.contains(claim.left) && !set.contains(claim.right) {
-        Ok(())
-    } else {
-        Err(SheetFault::Witness)
-    }
+    ensure(
+        set.contains(claim.left) && !set.contains(claim.right),
+        SheetFault::Witness,
+    )
 }

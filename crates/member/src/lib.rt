@@ -65,10 +65,7 @@ fn set_of(sets: &[StateSet], k: usize) -> StateSet
     requires { 0 < length sets.now }
     ensures { result.bits ≡ slice_index_or (bits_of sets.now) k (slice_index (bits_of sets.now) 0) }
 {
-    match sets.get(k) {
-        Some(set) => *set,
-        None => sets[0],
-    }
+    sets.get(k).copied().unwrap_or(sets[0])
 }
 
 /// Puts the set of each hedge number into the table: 0 is the empty hedge, k begins at item k.
