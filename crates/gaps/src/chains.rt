@@ -24,7 +24,7 @@ const UPPER_BITS: usize = 1 << 56;
 /// The chain that a row is in.
 pub(crate) fn slot(row: &Row) -> usize
     ensures value { result ≡ slot_of row.now }
-    ensures below { result < 256 }
+    ensures below { result < CHAINS }
 {
     let low = (row.right.bits % WORD) as usize;
     let high = (row.right.bits / WORD) as usize;
