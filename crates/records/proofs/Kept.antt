@@ -6,7 +6,7 @@ use Rattle.std.specs.List.{AllByRecursion}
 use Rattle.std.proofs.lemmas.Nat.{pow_pos, pow_below}
 use Rattle.std.proofs.ByRecursion.{All-push}
 use Rattle.std.proofs.lemmas.List.{length_push, get_or_push, get_or_append_left, set_at, append_assoc}
-use Rattle.std.proofs.lemmas.Bool.{and_parts, ltb-true, leb-true, lt-ltb, eqb-true, cond-true, cases_lt, false≢true}
+use Rattle.std.proofs.lemmas.Bool.{and_parts, ltb-true, leb-true, lt-ltb, eqb-true, cond-true, cases_lt}
 use Rattle.model.specs.declared.names.Name.{Name}
 use Rattle.model.specs.declared.rows.Row.{Row}
 use Rattle.model.specs.declared.rows.Item.{Item}
@@ -190,8 +190,8 @@ placed_records Excluded rows items a b = (refl, a)
 
 placed_end : (v : Verdict) (rows : List Row) (items : List Item) → ((v ≡ Included) × (items ≡ [])) ⊎ ((v ≡ Excluded) × (rows ≡ [])) → Placed Ended v rows items
 placed_end Included rows items (inl t) = t.1
-placed_end Included rows items (inr t) = let z : false ≡ true = cc t.0 in elim (false≢true z) [ ]
-placed_end Excluded rows items (inl t) = let z : false ≡ true = cc t.0 in elim (false≢true z) [ ]
+placed_end Included rows items (inr t) = absurd (cc t.0)
+placed_end Excluded rows items (inl t) = absurd (cc t.0)
 placed_end Excluded rows items (inr t) = t.1
 
 -- one item more

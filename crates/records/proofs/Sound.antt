@@ -1,5 +1,5 @@
 -- The records of a text that was read, as the slices hold them afterwards.
-use Rattle.std.proofs.Common.{◌≡◌, ℕ, ◌+◌, ◌-◌, ◌<◌, ◌≤◌, true, false, ◌||◌, eqb, ltb, leb, List, [], length, replicate, IfOk, Ok, Err, Result, sym, refl, ap, ◌∙◌, subst, ⊎_elim, arith}
+use Rattle.std.proofs.Common.{◌≡◌, ℕ, ◌+◌, ◌-◌, ◌<◌, ◌≤◌, true, ◌||◌, eqb, ltb, leb, List, [], length, replicate, IfOk, Ok, Err, Result, sym, refl, ap, ◌∙◌, subst, ⊎_elim, arith}
 use native.Mathlib.Nat.{sub-zero}
 use Rattle.std.specs.List.{AllByRecursion}
 use Rattle.std.proofs.ByRecursion.{All-get_or}
@@ -90,11 +90,11 @@ text_keeps L names s m n bs P h =
 -- what a call answers came of a text that was read
 pub answer_ok : (R : Result Found CallFault) (p : Progress) → Ok p ≡ answer itself R → (f : Found) × (R ≡ Ok f) × (f.at ≡ p)
 answer_ok (Ok f) p e = (f, refl, cc)
-answer_ok (Err x) p e = let z : false ≡ true = cc in elim (false≢true z) [ ]
+answer_ok (Err x) p e = absurd cc
 
 pub answer_more : {X : Type 0} (g : Progress → X) (R : Result Found CallFault) (p : Progress) → Ok p ≡ answer itself R → Ok (g p) ≡ answer g R
 answer_more g (Ok f) p e = let at : p ≡ f.at = cc in ap (λ q. Ok (g q)) at
-answer_more g (Err x) p e = let z : false ≡ true = cc in elim (false≢true z) [ ]
+answer_more g (Err x) p e = absurd cc
 
 -- the records of a text that ended, by its verdict
 ended_sound : (L : Limits) (names : List Name) (rows : List Row) (items : List Item) (m n count : ℕ) →

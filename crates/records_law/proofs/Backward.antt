@@ -3,7 +3,7 @@ use Rattle.std.proofs.Common.{◌≡◌, ℕ, Bool, true, false, cond, ◌&&◌,
 use Rattle.std.specs.Str.{bytes_eq}
 use Rattle.std.proofs.lemmas.Nat.{pow_pos}
 use Rattle.std.proofs.lemmas.Slice.Eq.{bytes_eq-Decides}
-use Rattle.std.proofs.lemmas.Bool.{eqb-true, false≢true}
+use Rattle.std.proofs.lemmas.Bool.{eqb-true}
 use Rattle.model.specs.declared.names.Name.{Name}
 use Rattle.model.specs.declared.rows.Row.{Row}
 use Rattle.model.specs.declared.rows.Item.{Item}
@@ -39,7 +39,7 @@ pub opened : (L : Limits) (names : List Name) (p : Progress) (n : ℕ) (bs : Lis
 opened L names p n bs s e = go (after 61 bs) refl e
   where
     go : (o : Option (List ℕ)) → after 61 bs ≡ o → then (of_line (parts_at n (before 61 bs) o)) (λ kf. at_stage L names p n kf.0 kf.1 p.stage) ≡ Ok s → OpenedLine L names p n bs s
-    go None a k = let z : false ≡ true = cc in elim (false≢true z) [ ]
+    go None a k = absurd cc
     go (Some r) a k =
         record {
           word = before 61 bs;
@@ -54,12 +54,12 @@ word_back n w k x e = (bytes_eq-Decides k w).0 (cond_ok (bytes_eq k w) tt x (For
 
 -- a field that is there, and none that is left
 pub taken_back : (K : ℕ → List ℕ → View) (n : ℕ) (ps : List (List ℕ)) (f : View) → of_line (taken K n ps) ≡ Ok f → (p : List ℕ) × (ps ≡ p ∷ others ps) × (f ≡ K n p)
-taken_back K n [] f e = let z : false ≡ true = cc in elim (false≢true z) [ ]
+taken_back K n [] f e = absurd cc
 taken_back K n (p ∷ ps) f e = (p, refl, cc)
 
 pub ended_back : (n : ℕ) (ps : List (List ℕ)) (x : Unit {0}) → of_line (ended n ps) ≡ Ok x → ps ≡ []
 ended_back n [] x e = refl
-ended_back n (p ∷ ps) x e = let z : false ≡ true = cc in elim (false≢true z) [ ]
+ended_back n (p ∷ ps) x e = absurd cc
 
 -- a number that is there
 pub number_field : (n : ℕ) (ps : List (List ℕ)) (f : View) (a : ℕ) → of_line (taken number n ps) ≡ Ok f → of_line (value_in f) ≡ Ok a → ps ≡ decimal a ∷ others ps
@@ -78,7 +78,7 @@ verdict_back n p v e = go (bytes_eq p (codes "included")) refl (bytes_eq p (code
         cond a (Ok Included) (cond b (Ok Excluded) (Err (Form n))) ≡ Ok v → p ≡ verdict_text v
     go true ea b eb k = (bytes_eq-Decides p (codes "included")).0 ea ∙ ap verdict_text (same_ok k)
     go false ea true eb k = (bytes_eq-Decides p (codes "excluded")).0 eb ∙ ap verdict_text (same_ok k)
-    go false ea false eb k = let z : false ≡ true = cc in elim (false≢true z) [ ]
+    go false ea false eb k = absurd cc
 
 -- the first line of a sheet
 pub sheet_back : (n : ℕ) (k : List ℕ) (ps : List (List ℕ)) (s : Step) → sheet_line n (key n k) ps ≡ Ok s →
@@ -190,4 +190,4 @@ pub no_line : (L : Limits) (names : List Name) (p : Progress) (n : ℕ) (bs : Li
 no_line L names p n bs s e h =
     let o = opened L names p n bs s h in
     let k : at_stage L names p n (key n o.word) o.parts Ended ≡ Ok s = ap (at_stage L names p n (key n o.word) o.parts) (sym e) ∙ o.says in
-    let z : false ≡ true = cc in elim (false≢true z) [ ]
+    absurd cc

@@ -113,7 +113,7 @@ right_keeps n states low s (p ∷ ps) t small e i lt =
         let le : low ≤ q = leb-true low q c.0 in
         let lq : q < min states 128 = ltb-true q (min states 128) c.1 in
         rec (insert_below s low q small le (omega arith)) k i (omega arith) ∙ ap (λ z. has z i) (insert_high s low q small le (omega arith)) ∙ has_under s q i (omega arith)
-    go q false b k rec = let z : false ≡ true = cc in elim (false≢true z) [ ]
+    go q false b k rec = absurd cc
 
 -- states that are read are written so
 pub right_back : (n states low s : ℕ) (ps : List (List ℕ)) (t : StateSet) → s < 2 ^ low → low ≤ 128 → right_states n states low s ps ≡ Ok t →
@@ -150,4 +150,4 @@ right_back n states low s (p ∷ ps) t small most e =
         let found : members (128 - low) low T ≡ q ∷ members (128 - (q + 1)) (q + 1) T =
         members_skip j low T (omega arith) absent ∙ ap (λ z. members (128 - z) z T) up ∙ ap (λ z. members z q T) m ∙ members_suc (128 - (q + 1)) q T ∙ cond-true (has T q) _ _ there in
         ap (λ z. z ∷ ps) is ∙ ap (λ z. decimal q ∷ z) (rec below (omega arith) k) ∙ sym (ap (map decimal) found)
-    go q false b k is rec keeps = let z : false ≡ true = cc in elim (false≢true z) [ ]
+    go q false b k is rec keeps = absurd cc

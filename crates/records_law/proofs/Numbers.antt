@@ -2,7 +2,7 @@
 use Rattle.std.proofs.Common.{◌≡◌, ℕ, zero, suc, ◌^◌, ◌<◌, ◌≤◌, Bool, true, false, cond, not, ◌&&◌, ◌||◌, eqb, leb, List, [], ◌∷◌, length, get_or, Some, None, Ok, decimal, Option, sym, refl, ap, ◌∙◌, ⊎_elim, arith}
 use Rattle.std.proofs.lemmas.Str.Parse.{IsNumeralModel, IsDigitsTest, numerals_by_fold, digits_value_short}
 use Rattle.std.proofs.lemmas.Fmt.{decimal_digit, decimal_nonempty, length-decimal-le, first_decimal, digits_decimal, digits_value-decimal, decimal-digits_value}
-use Rattle.std.proofs.lemmas.Bool.{and_parts, and_from, or_cases, or_left, or_right, leb-true, le-leb, eqb-true, eq-eqb, ne_eqb, not-true, not_from_false, cond-true, false≢true, eqb-false}
+use Rattle.std.proofs.lemmas.Bool.{and_parts, and_from, or_cases, or_left, or_right, leb-true, le-leb, eqb-true, eq-eqb, ne_eqb, not-true, not_from_false, cond-true, eqb-false}
 use Rattle.text.specs.Forms.{digit, decimal_after, is_number, number_of}
 use Rattle.text.specs.Fields.{number, value_in, or_number}
 
@@ -86,5 +86,5 @@ pub value_back : (l n : ℕ) (p : List ℕ) → value_in (number l p) ≡ Ok n �
 value_back l n p h = number_back p n (go (number_of p) h)
   where
     go : (o : Option ℕ) → or_number l o ≡ Ok n → o ≡ Some n
-    go None e = let z : false ≡ true = cc in elim (false≢true z) [ ]
+    go None e = absurd cc
     go (Some v) e = cc

@@ -75,7 +75,7 @@ before_on m [] rest h = cond-true (eqb m m) _ _ (eq-eqb m m refl)
 before_on m (x ∷ xs) rest h = cond-false (eqb x m) _ _ h.0 ∙ ap (λ l. x ∷ l) (before_on m xs rest h.1)
 
 pub after_back : (m : ℕ) (xs r : List ℕ) → after m xs ≡ Some r → xs ≡ before m xs ++ m ∷ r
-after_back m [] r h = let z : false ≡ true = cc in elim (false≢true z) [ ]
+after_back m [] r h = absurd cc
 after_back m (x ∷ xs) r h = go (eqb x m) refl h (after_back m xs r)
   where
     go : (b : Bool) → eqb x m ≡ b → cond b (Some xs) (after m xs) ≡ Some r → (after m xs ≡ Some r → xs ≡ before m xs ++ m ∷ r) →

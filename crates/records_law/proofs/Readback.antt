@@ -2,7 +2,7 @@
 use Rattle.std.proofs.Common.{◌≡◌, ℕ, zero, suc, ◌+◌, ◌<◌, ◌≤◌, Bool, true, false, cond, ◌&&◌, ltb, List, [], ◌∷◌, ◌++◌, map, length, take, Ok, codes, decimal, sym, refl, ap, ◌∙◌, arith}
 use Rattle.std.specs.List.{AllByRecursion}
 use Rattle.std.proofs.lemmas.List.{append_assoc, append-nil, length-take-le}
-use Rattle.std.proofs.lemmas.Bool.{and_parts, ltb-true, false≢true}
+use Rattle.std.proofs.lemmas.Bool.{and_parts, ltb-true}
 use Rattle.model.specs.declared.names.Name.{Name}
 use Rattle.model.specs.declared.rows.Row.{Row}
 use Rattle.model.specs.declared.rows.Item.{Item}
@@ -80,7 +80,7 @@ fit_checked names (suc n) k (i ∷ is) e = go (item_fits names k i) refl e (fit_
     go : (b : Bool) → item_fits names k i ≡ b → cond b (places_checked (item_fits names) (k + 1) n is) (misplaced (k + 3)) ≡ Ok tt →
         (places_checked (item_fits names) (k + 1) n is ≡ Ok tt → FitFrom names (k + 1) (take n is)) → (item_fits names k i ≡ true) × FitFrom names (k + 1) (take n is)
     go true h x rec = (h, rec x)
-    go false h x rec = let z : false ≡ true = cc in elim (false≢true z) [ ]
+    go false h x rec = absurd cc
 
 -- the lines of records
 rows_lines : (states : ℕ) → states ≤ 128 → (rs : List Row) (rest : List ℕ) → AllByRecursion (λ r. row_fits states r ≡ true) rs → lines (all_texts row_text rs ++ rest) ≡ map row_bytes rs ++ lines rest

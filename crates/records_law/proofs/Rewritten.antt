@@ -1,7 +1,7 @@
 -- What is accepted was written so.
 use Rattle.std.proofs.Common.{◌≡◌, ℕ, ◌+◌, Bool, true, false, cond, not, ◌||◌, eqb, ltb, ◌⊎◌, List, [], ◌∷◌, ◌++◌, length, take, Ok, Err, codes, decimal, Result, sym, refl, ap, ◌∙◌, inl, inr, arith}
 use Rattle.std.proofs.lemmas.List.{append_assoc, append-nil, take_all}
-use Rattle.std.proofs.lemmas.Bool.{or_parts, not-false, eqb-true, false≢true}
+use Rattle.std.proofs.lemmas.Bool.{or_parts, not-false, eqb-true}
 use Rattle.model.specs.declared.names.Name.{Name}
 use Rattle.model.specs.declared.rows.Row.{Row}
 use Rattle.model.specs.declared.rows.Item.{Item}
@@ -28,7 +28,7 @@ same_ok : {X E : Type 0} {x y : X} → ◌≡◌ {A = Result X E} (Ok x) (Ok y) 
 same_ok h = cc
 
 no_ok : {X E : Type 0} {e : E} {y : X} → ◌≡◌ {A = Result X E} (Err e) (Ok y) → ⊥
-no_ok h = let z : false ≡ true = cc in elim (false≢true z) [ ]
+no_ok h = absurd cc
 
 -- a text may end only at its end
 ends_here : (n : ℕ) (f g : Found) (s : Stage) → finished n f s ≡ Ok g → (s ≡ Ended) × (g ≡ f)
@@ -46,8 +46,8 @@ after_end L names (l ∷ ls) f n g e h = let a = then_ok (judged L names f.at (n
 
 -- some line is left
 stage_apart : (v : Verdict) → records_of v ≡ Ended → ⊥
-stage_apart Included h = let z : false ≡ true = cc in elim (false≢true z) [ ]
-stage_apart Excluded h = let z : false ≡ true = cc in elim (false≢true z) [ ]
+stage_apart Included h = absurd cc
+stage_apart Excluded h = absurd cc
 
 -- a line and the lines after it
 with_line : (k p : List ℕ) (ps : List (List ℕ)) (l : List ℕ) (ls : List (List ℕ)) (rest : List ℕ) → l ≡ line_bytes k p ps → unlined ls ≡ rest → unlined (l ∷ ls) ≡ line_text k p ps ++ rest

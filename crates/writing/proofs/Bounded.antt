@@ -3,7 +3,7 @@ use Rattle.std.proofs.Common.{◌≡◌, ℕ, zero, suc, ◌+◌, ◌*◌, ◌/�
 use Rattle.std.specs.Fmt.{digits, digits_onto, digit_glyph}
 use Rattle.std.specs.List.{AllByRecursion}
 use Rattle.std.proofs.lemmas.List.{length-append, length-take}
-use Rattle.std.proofs.lemmas.Bool.{and_parts, leb-true, eqb-true, false≢true, le-leb, lt-leb, cond-true, cond-false}
+use Rattle.std.proofs.lemmas.Bool.{and_parts, leb-true, eqb-true, le-leb, lt-leb, cond-true, cond-false}
 use Rattle.model.specs.declared.names.Name.{Name}
 use Rattle.model.specs.declared.rows.Row.{Row}
 use Rattle.model.specs.declared.rows.Item.{Item}
@@ -61,14 +61,14 @@ all_short f h (x ∷ xs) = omega (arith, length-append (f x) (all_texts f xs), h
 pub places_ok : {X : Type 0} (fits : ℕ → X → Bool) (P : X → Type 0) (most : ℕ) → ((k : ℕ) (x : X) → k < most → fits k x ≡ true → P x) →
     (n k : ℕ) (xs : List X) → k + length xs ≤ most → places_checked fits k n xs ≡ Ok tt → AllByRecursion P (take n xs) × (n ≤ length xs)
 places_ok fits P most given zero k xs h e = (tt, omega arith)
-places_ok fits P most given (suc n) k [] h e = let z : false ≡ true = cc in elim (false≢true z) [ ]
+places_ok fits P most given (suc n) k [] h e = absurd cc
 places_ok fits P most given (suc n) k (x ∷ xs) h e =
     go (fits k x) refl e (places_ok fits P most given n (k + 1) xs (omega arith))
   where
     go : (b : Bool) → fits k x ≡ b → cond b (places_checked fits (k + 1) n xs) (misplaced (k + 3)) ≡ Ok tt →
         (places_checked fits (k + 1) n xs ≡ Ok tt → AllByRecursion P (take n xs) × (n ≤ length xs)) → AllByRecursion P (take (suc n) (x ∷ xs)) × (suc n ≤ length (x ∷ xs))
     go true is h' rec = let r = rec h' in ((given k x (omega arith) is, r.0), omega (arith, r.1))
-    go false is h' rec = let z : false ≡ true = cc in elim (false≢true z) [ ]
+    go false is h' rec = absurd cc
 
 -- the records of a sheet
 pub records_short : (v : Verdict) (n : ℕ) (rows : List Row) (items : List Item) → length rows ≤ 512 → length items ≤ 512 →
