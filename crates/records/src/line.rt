@@ -85,18 +85,19 @@ fn all_numbers(mut fields: Fields) -> Result<(), LineFault>
 
 /// The set of the right states, which are the fields that are left: each is a state above the one
 /// before it.
-fn right_states(states: usize, line: usize, mut fields: Fields) -> Result<StateSet, CallFault>
-    requires { line ≡ fields.line }
-    ensures { result ≡ right_states line states 0 0 (fields_left fields.entry) }
+fn right_states(states: usize, mut fields: Fields) -> Result<StateSet, CallFault>
+    ensures { result ≡ right_states fields.entry.line states 0 0 (fields_left fields.entry) }
 {
+    let line = fields.line();
     let mut set = StateSet::empty();
     let mut low = 0;
     while !fields.is_done() {
         let field = fields.number()?;
         let q = field.value()?;
-        if q < low || q >= states || q >= 128 {
-            return Err(TableFault::Place { line }.into());
-        }
+        ensure(
+            low <= q && q < states.min(128),
+            TableFault::Place { line },
+        )?;
         set = set.with(q);
         low = q + 1;
     }
@@ -124,8 +125,7 @@ impl Judge<'_> {
         let left = fields.number()?;
         let right = fields.number()?;
         fields.end()?;
-        let left = left.value()?;
-        let right = right.value()?;
+        let (left, right) = (left.value()?, right.value()?);
         let rules = self.limits.rules;
         ensure(
             left < rules && right < rules,
@@ -146,7 +146,6 @@ impl Judge<'_> {
 
     /// A row of an included sheet.
     fn row_line(self, count: usize, key: Field, mut fields: Fields) -> Result<Step, CallFault>
-        requires { line_of (view key) ≡ fields.line }
         ensures { result ≡ row_line self.entry.limits count fields.entry.line (view key.entry) (fields_left fields.entry) }
     {
         let states = self.limits.states;
@@ -154,7 +153,7 @@ impl Judge<'_> {
         all_numbers(fields)?;
         let left = fields.number()?;
         let left = left.value()?;
-        let right = right_states(states, key.line(), fields)?;
+        let right = right_states(states, fields)?;
         ensure(left < states, misplaced(key))?;
         Ok(Step::Row(Row { left, right }))
     }
@@ -168,10 +167,11 @@ impl Judge<'_> {
         let next = fields.number()?;
         fields.end()?;
         self.place(key, count)?;
-        let name = name.value()?;
-        let child = child.value()?;
-        let next = next.value()?;
-        let item = Item { name, child, next };
+        let item = Item {
+            name: name.value()?,
+            child: child.value()?,
+            next: next.value()?,
+        };
         ensure(item_fits(self.names, count, item), misplaced(key))?;
         Ok(Step::Item(item))
     }
