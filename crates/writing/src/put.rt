@@ -24,6 +24,7 @@ impl Writer<'_> {
     {
         let at = self.at;
         let out = &mut *self.out;
+        // not `get_mut`: after it the check knows the slice's length and no element of it
         if at < out.len() {
             out[at] = byte;
         }
