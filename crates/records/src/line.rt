@@ -77,8 +77,7 @@ fn all_numbers(mut fields: Fields) -> Result<(), LineFault>
     ensures { result ≡ all_numbers fields.entry.line (fields_left fields.entry) }
 {
     while !fields.is_done() {
-        let field = fields.number()?;
-        field.value()?;
+        fields.number()?.value()?;
     }
     Ok(())
 }
@@ -92,12 +91,8 @@ fn right_states(states: usize, mut fields: Fields) -> Result<StateSet, CallFault
     let mut set = StateSet::empty();
     let mut low = 0;
     while !fields.is_done() {
-        let field = fields.number()?;
-        let q = field.value()?;
-        ensure(
-            low <= q && q < states.min(128),
-            TableFault::Place { line },
-        )?;
+        let q = fields.number()?.value()?;
+        ensure(low <= q && q < states.min(128), TableFault::Place { line })?;
         set = set.with(q);
         low = q + 1;
     }
@@ -105,13 +100,11 @@ fn right_states(states: usize, mut fields: Fields) -> Result<StateSet, CallFault
 }
 
 /// The end, with the number of records.
-fn end_line(count: usize, key: Field, mut fields: Fields) -> Result<Step, CallFault>
+fn end_line(count: usize, key: Field, fields: Fields) -> Result<Step, CallFault>
     ensures { result ≡ end_line count fields.entry.line (view key.entry) (fields_left fields.entry) }
 {
     expect(key, b"end")?;
-    let number = fields.number()?;
-    fields.end()?;
-    let number = number.value()?;
+    let number = fields.last_number()?.value()?;
     ensure(number == count, misplaced(key))?;
     Ok(Step::Ended)
 }
@@ -123,8 +116,7 @@ impl Judge<'_> {
     {
         expect(key, b"pair")?;
         let left = fields.number()?;
-        let right = fields.number()?;
-        fields.end()?;
+        let right = fields.last_number()?;
         let (left, right) = (left.value()?, right.value()?);
         let rules = self.limits.rules;
         ensure(
@@ -151,8 +143,7 @@ impl Judge<'_> {
         let states = self.limits.states;
         self.place(key, count)?;
         all_numbers(fields)?;
-        let left = fields.number()?;
-        let left = left.value()?;
+        let left = fields.number()?.value()?;
         let right = right_states(states, fields)?;
         ensure(left < states, misplaced(key))?;
         Ok(Step::Row(Row { left, right }))
@@ -164,16 +155,18 @@ impl Judge<'_> {
     {
         let name = fields.number()?;
         let child = fields.number()?;
-        let next = fields.number()?;
-        fields.end()?;
+        let next = fields.last_number()?;
         self.place(key, count)?;
         let item = Item {
             name: name.value()?,
             child: child.value()?,
             next: next.value()?,
         };
-        ensure(item_fits(self.names, count, item), misplaced(key))?;
-        Ok(Step::Item(item))
+        if item_fits(self.names, count, item) {
+            Ok(Step::Item(item))
+        } else {
+            Err(misplaced(key))
+        }
     }
 
     /// What the next line says, at the stage that the text has come to.
