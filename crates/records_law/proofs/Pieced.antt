@@ -109,9 +109,6 @@ ends_tail : (x : ℕ) (xs : List ℕ) → Ends (x ∷ xs) → Ends xs
 ends_tail x [] h = tt
 ends_tail x (y ∷ ys) h = h
 
-onto_unlined : (x : ℕ) (l : List ℕ) (ls : List (List ℕ)) → unlined (onto x (l ∷ ls)) ≡ x ∷ unlined (l ∷ ls)
-onto_unlined x l ls = refl
-
 pub lines_back : (xs : List ℕ) → Ends xs → unlined (lines xs) ≡ xs
 lines_back [] h = refl
 lines_back (x ∷ xs) h = go (eqb x 10) refl (lines_back xs (ends_tail x xs h))

@@ -1,22 +1,21 @@
 -- A sheet that is written is not too long to be counted, and all its records have places.
-use Rattle.std.proofs.Common.{◌≡◌, ℕ, zero, suc, ◌+◌, ◌*◌, ◌/◌, ◌%◌, ◌^◌, ◌<◌, ◌≤◌, Bool, true, false, cond, ◌&&◌, eqb, leb, List, [], ◌∷◌, map, length, take, Ok, Err, codes, decimal, refl, ap, ◌∙◌, arith}
+use Rattle.std.proofs.Common.{◌≡◌, ℕ, zero, suc, ◌+◌, ◌*◌, ◌/◌, ◌%◌, ◌^◌, ◌<◌, ◌≤◌, Bool, true, false, cond, ◌&&◌, eqb, leb, List, [], ◌∷◌, map, length, take, Ok, codes, decimal, refl, ap, arith}
 use Rattle.std.specs.Fmt.{digits, digits_onto, digit_glyph}
 use Rattle.std.specs.List.{AllByRecursion}
 use Rattle.std.proofs.lemmas.List.{length-append, length-take}
-use Rattle.std.proofs.lemmas.Bool.{and_parts, leb-true, eqb-true, le-leb, lt-leb, cond-true, cond-false}
+use Rattle.std.proofs.lemmas.Bool.{and_parts, leb-true, eqb-true}
 use Rattle.model.specs.declared.names.Name.{Name}
 use Rattle.model.specs.declared.rows.Row.{Row}
 use Rattle.model.specs.declared.rows.Item.{Item}
 use Rattle.model.specs.Sets.{has}
-use Rattle.records.specs.declared.fault.CallFault.TheVariants.{Output}
 use Rattle.model.specs.declared.verdict.Verdict.{Verdict}
 use Rattle.model.specs.declared.verdict.Verdict.TheVariants.{Included, Excluded}
 use Rattle.records.specs.declared.sheet.Sheet.{Sheet}
-use Rattle.records.specs.Chains.{then, misplaced}
+use Rattle.records.specs.Chains.{misplaced}
 use Rattle.records.specs.Reading.{counted}
 use Rattle.records.proofs.Chained.{then_ok, cond_ok}
 use Rattle.writing.specs.Texts.{further, members, row_text, item_text, all_texts, records_text, sheet_text}
-use Rattle.writing.specs.Checks.{places_checked, sheet_checked, sheet_written}
+use Rattle.writing.specs.Checks.{places_checked, sheet_checked}
 use Rattle.writing.proofs.Spelled.{members_suc, members_zero, line_length, two_length, one_length, sheet_length, verdict_length}
 
 -- a number has at most 64 digits
@@ -101,16 +100,3 @@ sheet_short rules states names s rows items e =
       decimal_short s.records,
       records_short s.verdict s.records rows items n.1 (omega (arith, n.1, n.2)),
     )
-
--- what writing answers once its checks are passed
-pub written_long : (rules states : ℕ) (names : List Name) (s : Sheet) (rows : List Row) (items : List Item) (room : ℕ) → sheet_checked rules states names s rows items ≡ Ok tt →
-    length (sheet_text s rows items) ≤ room → sheet_written rules states names s rows items room ≡ Ok (length (sheet_text s rows items))
-written_long rules states names s rows items room e le =
-    ap (λ r. then r λ _. cond (leb (length (sheet_text s rows items)) room) (Ok (length (sheet_text s rows items))) (Err Output)) e
-    ∙ cond-true (leb (length (sheet_text s rows items)) room) _ _ (le-leb _ _ le)
-
-pub written_short : (rules states : ℕ) (names : List Name) (s : Sheet) (rows : List Row) (items : List Item) (room : ℕ) → sheet_checked rules states names s rows items ≡ Ok tt →
-    room < length (sheet_text s rows items) → sheet_written rules states names s rows items room ≡ Err Output
-written_short rules states names s rows items room e lt =
-    ap (λ r. then r λ _. cond (leb (length (sheet_text s rows items)) room) (Ok (length (sheet_text s rows items))) (Err Output)) e
-    ∙ cond-false (leb (length (sheet_text s rows items)) room) _ _ (lt-leb _ _ lt)

@@ -1,5 +1,5 @@
 -- The steps of a check of records, one by one.
-use Rattle.std.proofs.Common.{◌≡◌, ℕ, suc, ◌+◌, ◌-◌, ◌/◌, ◌^◌, ◌<◌, ◌≤◌, min, Bool, true, false, cond, ◌&&◌, eqb, List, [], ◌∷◌, length, get_or, drop, Ok, sym, ap, ◌∙◌, arith}
+use Rattle.std.proofs.Common.{◌≡◌, ℕ, suc, ◌+◌, ◌-◌, ◌/◌, ◌^◌, ◌<◌, ◌≤◌, min, Bool, true, false, cond, ◌&&◌, eqb, List, [], ◌∷◌, length, get_or, drop, sym, ap, ◌∙◌, arith}
 use native.Mathlib.Nat.{div-eq_of_lt}
 use Rattle.std.proofs.lemmas.List.{at_drop_more, at_drop_all}
 use Rattle.std.proofs.lemmas.Bool.{cond-true, cond-false, lt-ltb}
@@ -22,12 +22,6 @@ check_more fits xs i n x lt le e =
     at_drop_more (places_checked fits i (n - i)) xs i x le
     ∙ ap (λ k. places_checked fits i k (get_or xs i x ∷ drop (i + 1) xs)) m
     ∙ ap (λ y. cond (fits i y) (places_checked fits (i + 1) (n - (i + 1)) (drop (i + 1) xs)) (misplaced (i + 3))) (sym e)
-
--- no record is left
-pub check_done : {X : Type 0} (fits : ℕ → X → Bool) (xs : List X) (i n : ℕ) → n ≤ i → places_checked fits i (n - i) xs ≡ Ok tt
-check_done fits xs i n le =
-    let m : n - i ≡ 0 = omega arith in
-    ap (λ k. places_checked fits i k xs) m
 
 -- it does not fit, or it does
 pub check_refused : {X : Type 0} (fits : ℕ → X → Bool) (xs : List X) (i n : ℕ) (x : X) → i < n → i < length xs → x ≡ get_or xs i x → false ≡ fits i x →

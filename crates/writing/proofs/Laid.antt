@@ -11,11 +11,7 @@ pub laid_append : (xs ys out : List ℕ) (at : ℕ) → laid out at (xs ++ ys) �
 laid_append [] ys out at = ap (λ k. laid out k ys) (omega arith)
 laid_append (x ∷ xs) ys out at = laid_append xs ys (set out at x) (at + 1) ∙ ap (λ k. laid (laid (set out at x) (at + 1) xs) k ys) (omega arith)
 
--- nothing is written into nothing
-pub laid_none : (bs : List ℕ) (at : ℕ) → laid [] at bs ≡ []
-laid_none [] at = refl
-laid_none (b ∷ bs) at = laid_none bs (at + 1)
-
+-- it is the library's writing of several bytes
 pub laid_is_sets : (bs out : List ℕ) (at : ℕ) → laid out at bs ≡ sets out at bs
 laid_is_sets [] out at = refl
 laid_is_sets (b ∷ bs) out at = laid_is_sets bs (set out at b) (at + 1) ∙ ap (λ k. sets (set out at b) k bs) (add-one at)

@@ -2,3 +2,4 @@
 pub mod Texts
 pub mod Checks
 pub mod Wrote
+pub mod Pages

@@ -2,8 +2,9 @@
 ghost use Rattle.std.specs.Prelude.{◌≡◌, ◌≤◌, length};
 ghost use Rattle.writing.specs.Checks.{row_fits, places_checked, pair_checked, sheet_checked};
 
+use crate::page::Page;
 use crate::record::Record;
-use model::rows::{Item, Row};
+use model::rows::Row;
 use records::fault::{CallFault, ensure};
 use records::read::counts;
 use records::sheet::{Bounds, Sheet, Verdict};
@@ -44,19 +45,17 @@ fn check_pair(rules: usize, sheet: Sheet) -> Result<(), CallFault>
     )
 }
 
-/// Refuses what reading the sheet's text would refuse.
-pub(crate) fn check_sheet(
-    sheet: Sheet,
-    bounds: Bounds,
-    rows: &[Row],
-    items: &[Item],
-) -> Result<(), CallFault>
-    ensures { result ≡ sheet_checked bounds.entry.rules bounds.entry.states bounds.entry.names.now sheet rows.now items.now }
-{
-    counts(rows.len(), items.len())?;
-    check_pair(bounds.rules, sheet)?;
-    match sheet.verdict {
-        Verdict::Included => check_records(bounds, sheet.records, rows),
-        Verdict::Excluded => check_records(bounds, sheet.records, items),
+impl Page<'_> {
+    /// Refuses what reading the sheet's text would refuse.
+    pub(crate) fn check(self, bounds: Bounds) -> Result<(), CallFault>
+        ensures { result ≡ sheet_checked bounds.entry.rules bounds.entry.states bounds.entry.names.now self.entry.sheet self.entry.rows.now self.entry.items.now }
+    {
+        let count = self.sheet.records;
+        counts(self.rows.len(), self.items.len())?;
+        check_pair(bounds.rules, self.sheet)?;
+        match self.sheet.verdict {
+            Verdict::Included => check_records(bounds, count, self.rows),
+            Verdict::Excluded => check_records(bounds, count, self.items),
+        }
     }
 }

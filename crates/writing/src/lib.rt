@@ -2,6 +2,7 @@
 #![tactic(auto)]
 
 pub mod check;
+mod page;
 pub mod put;
 pub mod record;
 pub mod write;

@@ -1,13 +1,14 @@
 //! Bytes, words, numbers and records, put into a lent output.
 ghost use Rattle.std.specs.Prelude.{◌≡◌, ◌^◌, ◌-◌, [], ◌∷◌, min, map, take, length, decimal};
 ghost use Rattle.writing.specs.Wrote.{laid, Wrote};
-ghost use Rattle.writing.specs.Texts.{further, line_text, states_text, all_texts, records_text, verdict_line, sheet_text};
+ghost use Rattle.writing.specs.Texts.{further, line_text, states_text, all_texts, records_text, verdict_line};
+ghost use Rattle.writing.specs.Pages.{page_text};
 
+use crate::page::Page;
 use crate::record::Record;
 use itoa::Buffer;
-use model::rows::{Item, Row};
 use model::sets::StateSet;
-use records::sheet::{Sheet, Verdict};
+use records::sheet::Verdict;
 
 /// A lent output with the next place. Where the output has no such place nothing is altered, so
 /// that an empty output gives the length alone. The place stops at the greatest number.
@@ -107,32 +108,36 @@ impl Writer<'_> {
     }
 
     /// Puts the records of a sheet.
-    fn sheet_records(&mut self, sheet: Sheet, rows: &[Row], items: &[Item])
-        ensures { Wrote self.old (records_text sheet.verdict sheet.records rows.now items.now) self.new }
+    fn page_records(&mut self, page: Page)
+        ensures { Wrote self.old (records_text page.entry.sheet.verdict page.entry.sheet.records page.entry.rows.now page.entry.items.now) self.new }
     {
-        match sheet.verdict {
-            Verdict::Included => self.records(sheet.records, rows),
-            Verdict::Excluded => self.records(sheet.records, items),
+        let count = page.sheet.records;
+        match page.sheet.verdict {
+            Verdict::Included => self.records(count, page.rows),
+            Verdict::Excluded => self.records(count, page.items),
         }
     }
 
     /// Puts a sheet.
-    fn sheet(&mut self, sheet: Sheet, rows: &[Row], items: &[Item])
-        ensures { Wrote self.old (sheet_text sheet rows.now items.now) self.new }
+    fn page(&mut self, page: Page)
+        ensures { Wrote self.old (page_text page.entry) self.new }
     {
+        let sheet = page.sheet;
         self.verdict(sheet.verdict);
         self.line(b"pair", sheet.left, &[sheet.right]);
-        self.sheet_records(sheet, rows, items);
+        self.page_records(page);
         self.line(b"end", sheet.records, &[]);
     }
 }
 
-/// Puts a sheet from the first place on, and answers its length.
-pub(crate) fn put_sheet(out: &mut [u8], sheet: Sheet, rows: &[Row], items: &[Item]) -> usize
-    ensures bytes { out.new ≡ laid out.old 0 (sheet_text sheet rows.now items.now) }
-    ensures length { result ≡ min (length (sheet_text sheet rows.now items.now)) (2 ^ 64 - 1) }
-{
-    let mut writer = Writer { out, at: 0 };
-    writer.sheet(sheet, rows, items);
-    writer.at
+impl Page<'_> {
+    /// Puts the sheet from the output's first place on, and answers its length.
+    pub(crate) fn put(self, out: &mut [u8]) -> usize
+        ensures bytes { out.new ≡ laid out.old 0 (page_text self.entry) }
+        ensures length { result ≡ min (length (page_text self.entry)) (2 ^ 64 - 1) }
+    {
+        let mut writer = Writer { out, at: 0 };
+        writer.page(self);
+        writer.at
+    }
 }

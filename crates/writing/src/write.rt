@@ -4,8 +4,7 @@ ghost use Rattle.writing.specs.Texts.{sheet_text};
 ghost use Rattle.writing.specs.Checks.{sheet_written};
 ghost use Rattle.writing.specs.Wrote.{filled};
 
-use crate::check::check_sheet;
-use crate::put::put_sheet;
+use crate::page::Page;
 use model::rows::{Item, Row};
 use records::fault::CallFault;
 use records::sheet::{Bounds, Sheet};
@@ -23,12 +22,12 @@ pub fn write_sheet(
     ensures result { result ≡ sheet_written bounds.entry.rules bounds.entry.states bounds.entry.names.now sheet rows.now items.now (length out.old) }
     ensures out { out.new ≡ filled result (sheet_text sheet rows.now items.now) out.old }
 {
-    check_sheet(sheet, bounds, rows, items)?;
-    let mut nothing: [u8; 0] = [];
-    let length = put_sheet(&mut nothing, sheet, rows, items);
+    let page = Page { sheet, rows, items };
+    page.check(bounds)?;
+    let length = page.put(&mut []);
     if length > out.len() {
         return Err(CallFault::Output);
     }
-    put_sheet(out, sheet, rows, items);
+    page.put(out);
     Ok(length)
 }
