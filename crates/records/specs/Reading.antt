@@ -1,5 +1,6 @@
 -- A text of records, line after line.
 use Rattle.std.specs.Prelude.{◌≡◌, ℕ, ◌+◌, ◌-◌, ◌<◌, ◌≤◌, cond, ◌&&◌, List, [], ◌∷◌, ◌++◌, length, take, drop, replicate, Ok, Err, Result, ◌==◌, nat_le, slice_index_or, slice_set}
+use Rattle.std.specs.Coded.{Unit-prop}
 use Rattle.model.specs.declared.names.Name.{Name}
 use Rattle.model.specs.declared.rows.Row.{Row}
 use Rattle.model.specs.declared.rows.Item.{Item}
@@ -109,6 +110,14 @@ Opening Pair = ⊥
 Opening Rows = ⊥
 Opening Items = ⊥
 Opening Ended = ⊥
+
+pub opening_prop : (s : Stage) → IsProp (Opening s)
+opening_prop Sheet = Unit-prop
+opening_prop Hedge = Unit-prop
+opening_prop Pair = λ x y. absurd x
+opening_prop Rows = λ x y. absurd x
+opening_prop Items = λ x y. absurd x
+opening_prop Ended = λ x y. absurd x
 
 -- the counts of rows and items that a call may be given: 1 to 512 rows, and as many items
 abbrev pub counted : ℕ → ℕ → Result (Unit {0}) CallFault

@@ -4,7 +4,6 @@ ghost use Rattle.records.specs.Faults.{call_told};
 ghost use Rattle.records.specs.declared.fault.CallFault.TheVariants.{Table as in_table};
 ghost use Rattle.text.specs.declared.fault.TableFault.TheVariants.{Line as in_line};
 
-pub use text::fault::ensure;
 use text::fault::{Fault, Layer, LineFault, TableFault, Told};
 use thiserror::Error;
 

@@ -6,13 +6,13 @@ ghost use Rattle.text.specs.declared.fault.TableFault.TheVariants.{Place as at_p
 ghost use Rattle.records.specs.declared.fault.CallFault.TheVariants.{Table as in_table};
 ghost use Rattle.records.specs.Lines.{worded, verdict_in, sheet_line, hedge_line, pair_line, all_numbers, right_states, roomy, row_line, item_line, end_line, at_stage, judged};
 
-use crate::fault::{CallFault, ensure};
+use crate::fault::CallFault;
 use crate::place::item_fits;
-use crate::sheet::{Limits, Progress, Stage, Step, Verdict};
+use crate::sheet::{Bounds, Limits, Progress, Stage, Step, Verdict};
 use model::names::Name;
 use model::rows::{Item, Row};
 use model::sets::StateSet;
-use text::fault::{LineFault, TableFault};
+use text::fault::{LineFault, TableFault, ensure};
 use text::field::Field;
 use text::line::{Fields, Line};
 
@@ -20,8 +20,8 @@ use text::line::{Fields, Line};
 /// the names of a grammar.
 #[derive(Clone, Copy)]
 pub(crate) struct Judge<'a> {
-    pub(crate) limits: Limits,
-    pub(crate) names: &'a [Name],
+    limits: Limits,
+    names: &'a [Name],
 }
 
 /// Refuses a line where another word stands.
@@ -109,7 +109,25 @@ fn end_line(count: usize, key: Field, fields: Fields) -> Result<Step, CallFault>
     Ok(Step::Ended)
 }
 
-impl Judge<'_> {
+impl<'a> Judge<'a> {
+    /// A judge of records that have so many places.
+    pub(crate) fn new(bounds: Bounds<'a>, room: usize) -> Judge<'a>
+        ensures limits { result.limits ≡ record { rules = bounds.entry.rules; states = bounds.entry.states; room = room } }
+        ensures names { result.names.now ≡ bounds.entry.names.now }
+    {
+        let Bounds {
+            rules,
+            states,
+            names,
+        } = bounds;
+        let limits = Limits {
+            rules,
+            states,
+            room,
+        };
+        Judge { limits, names }
+    }
+
     /// The pair of a sheet.
     fn pair_line(self, key: Field, mut fields: Fields) -> Result<Step, CallFault>
         ensures { result ≡ pair_line self.entry.limits.rules fields.entry.line (view key.entry) (fields_left fields.entry) }

@@ -2,15 +2,14 @@
 ghost use Rattle.std.specs.Prelude.{◌≡◌, ◌≤◌, length, replicate, IfOk};
 ghost use Rattle.model.specs.Blank.{blank_row, blank_item};
 ghost use Rattle.records.specs.Places.{HasPlace};
-ghost use Rattle.records.specs.Reading.{row_placed, item_placed, finished, counted, Opening, itself, sheet_of, count_of, sheet_read, hedge_read, ReadInto, SheetSound, ItemsSound};
-ghost use Rattle.records.specs.Texts.{lines_read, all_read, FilledBy};
+ghost use Rattle.records.specs.Reading.{row_placed, item_placed, finished, counted, Opening, opening_prop, itself, sheet_of, count_of, sheet_read, hedge_read, ReadInto, SheetSound, ItemsSound};
 
-use crate::fault::{CallFault, ensure};
+use crate::fault::CallFault;
 use crate::line::Judge;
-use crate::sheet::{Bounds, Limits, Progress, Sheet, Stage, Step};
+use crate::sheet::{Bounds, Progress, Sheet, Stage, Step};
 use model::names::Name;
 use model::rows::{Item, Row};
-use text::fault::LineFault;
+use text::fault::{LineFault, ensure};
 use text::line::whole;
 use text::reader::Reader;
 
@@ -20,12 +19,13 @@ const LIMIT: usize = 262144;
 /// The most rows or items that a call may be given.
 const MOST: usize = 512;
 
-/// A text that is to be read: the stage that it begins at, and what its lines are judged against.
+/// A text that is to be read: the stage that it begins at, and what its numbers are held against.
 #[derive(Clone, Copy)]
 struct Reading<'a> {
     text: &'a [u8],
     stage: Stage,
-    judge: Judge<'a>,
+    bounds: Bounds<'a>,
+    ghost opening: { Opening stage } by { opening_prop stage },
 }
 
 /// Puts a line's record at its place.
@@ -72,19 +72,21 @@ pub fn counts(rows: usize, items: usize) -> Result<(), CallFault>
 }
 
 impl Reading<'_> {
+    ghost use Rattle.records.specs.Texts.{lines_read, all_read, FilledBy};
+
     /// Reads the lines of the text into blank rows and items.
     fn lines(self, rows: &mut [Row], items: &mut [Item]) -> Result<Progress, CallFault>
-        requires opening { Opening self.stage }
         requires short { length self.text.now ≤ 262144 }
-        requires few { self.judge.limits.room ≤ 512 }
-        requires rows { rows.old ≡ replicate self.judge.limits.room blank_row }
-        requires items { items.old ≡ replicate self.judge.limits.room blank_item }
-        ensures { FilledBy (lines_read self.entry) self.entry.judge.limits.room self.entry.judge.limits.room result rows.new items.new }
+        requires few { length rows.old ≤ 512 }
+        requires rows { rows.old ≡ replicate (length rows.old) blank_row }
+        requires items { items.old ≡ replicate (length rows.old) blank_item }
+        ensures { FilledBy (lines_read self.entry (length rows.old)) (length rows.old) (length rows.old) result rows.new items.new }
     {
+        let judge = Judge::new(self.bounds, rows.len());
         let mut reader = Reader::new(self.text);
         let mut progress = Progress::started(self.stage);
         while let Some(line) = reader.next_line() {
-            let step = self.judge.judge(progress, line)?;
+            let step = judge.judge(progress, line)?;
             place(progress.count, step, rows, items);
             progress = progress.advanced(step);
         }
@@ -94,8 +96,6 @@ impl Reading<'_> {
     /// Reads the text into blank rows and items, once their counts and the text as a whole are
     /// tested.
     fn checked(self, rows: &mut [Row], items: &mut [Item]) -> Result<Progress, CallFault>
-        requires opening { Opening self.stage }
-        requires room { self.judge.limits.room ≡ length rows.old }
         requires rows { rows.old ≡ replicate (length rows.old) blank_row }
         requires items { items.old ≡ replicate (length items.old) blank_item }
         ensures { FilledBy (all_read self.entry (length rows.old) (length items.old)) (length rows.old) (length items.old) result rows.new items.new }
@@ -108,8 +108,6 @@ impl Reading<'_> {
     /// Reads the text into rows and items: what is not filled is blank, and all is blank after a
     /// refusal.
     fn read(self, rows: &mut [Row], items: &mut [Item]) -> Result<Progress, CallFault>
-        requires opening { Opening self.stage }
-        requires room { self.judge.limits.room ≡ length rows.old }
         ensures { ReadInto itself (all_read self.entry (length rows.old) (length items.old)) (length rows.old) (length items.old) result rows.new items.new }
     {
         blank(rows, items);
@@ -133,16 +131,10 @@ pub fn read_sheet(
     ensures read { ReadInto sheet_of (sheet_read bounds.entry.rules bounds.entry.states bounds.entry.names.now (length rows.old) (length items.old) text.now) (length rows.old) (length items.old) result rows.new items.new }
     ensures sound { IfOk result (λ sheet. SheetSound bounds.entry.rules bounds.entry.states bounds.entry.names.now sheet rows.new items.new) }
 {
-    let limits = Limits {
-        rules: bounds.rules,
-        states: bounds.states,
-        room: rows.len(),
-    };
-    let names = bounds.names;
     let reading = Reading {
         text,
         stage: Stage::Sheet,
-        judge: Judge { limits, names },
+        bounds,
     };
     let progress = reading.read(rows, items)?;
     Ok(Sheet {
@@ -166,15 +158,15 @@ pub fn read_hedge(
     ensures rows { rows.new ≡ replicate (length rows.old) blank_row }
     ensures sound { IfOk result (λ n. ItemsSound names.now n rows.new items.new) }
 {
-    let limits = Limits {
+    let bounds = Bounds {
         rules: 0,
         states: 0,
-        room: rows.len(),
+        names,
     };
     let reading = Reading {
         text,
         stage: Stage::Hedge,
-        judge: Judge { limits, names },
+        bounds,
     };
     let progress = reading.read(rows, items)?;
     Ok(progress.count)

@@ -5,10 +5,10 @@ ghost use Rattle.writing.specs.Checks.{row_fits, places_checked, pair_checked, s
 use crate::page::Page;
 use crate::record::Record;
 use model::rows::Row;
-use records::fault::{CallFault, ensure};
+use records::fault::CallFault;
 use records::read::counts;
 use records::sheet::{Bounds, Sheet, Verdict};
-use text::fault::TableFault;
+use text::fault::{TableFault, ensure};
 
 /// Whether a row's left state and all its right states are below the number of states.
 pub fn row_fits(states: usize, row: Row) -> bool

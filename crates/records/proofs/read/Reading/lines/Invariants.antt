@@ -9,8 +9,8 @@ use Rattle.records.proofs.read.Reading.lines.Given as goal
 -- the lines that are left, after the records so far, read as the whole text does
 abbrev pub invariant-loop-line : goal.invariant-loop-line
 invariant-loop-line l =
-    let L = l.self.judge.limits in
-    let names = l.self.judge.names.now in
+    let L = l.judge.limits in
+    let names = l.judge.names.now in
     (f : Found)
     × (f.at ≡ l.progress)
     × Kept L names f
