@@ -36,9 +36,10 @@ fn takes_item(
 ) -> bool
     ensures { result ≡ takes (seen setting.now) t inside.bits following.bits q }
 {
-    setting.machine.derivatives(q).iter().any(|d| setting.covers.get(d.0, t)
-        && inside.contains(d.1)
-        && following.contains(d.2))
+    let derivatives = setting.machine.derivatives(q);
+    derivatives.iter().any(|(label, content, rest)| {
+        setting.covers.get(*label, t) && inside.contains(*content) && following.contains(*rest)
+    })
 }
 
 /// The states that have an item t with a hedge inside that the states of `inside` have, before one

@@ -16,6 +16,6 @@ unfolding takes allows
 returns c =
     let m : Machine = seen c.args.setting.now in
     let test : Derivative → Bool = λ d. m.covers d.0 c.args.t && (has c.args.inside.bits d.1 && has c.args.following.bits d.2) in
-    any_from_yields_List test _ _ c.any.result c.any.ensures.ran (YieldsList-from_slice c.derivatives.result.now cc) (λ x b q k. search (rules, tests))
-    ∙ ap (list_any test) c.derivatives.ensures
+    any_from_yields_List test _ _ c.any.result c.any.ensures.ran (YieldsList-from_slice c.derivatives-derivatives.result.now cc) (λ x b q k. search (rules, tests))
+    ∙ ap (list_any test) c.derivatives-derivatives.ensures
     ∙ some_of test (derivatives_at m.states c.args.q) no_derivative
