@@ -4,3 +4,4 @@ pub mod Records
 pub mod Fine
 pub mod Derived
 pub mod States
+pub mod Props

@@ -1,6 +1,7 @@
 mod Memos
 mod Tests
 mod Reading
-mod Carrying
+mod Joins
+mod Nullables
 mod Going
 mod Building

@@ -2,8 +2,8 @@
 use Rattle.std.proofs.Common.{◌≡◌, ℕ, ◌+◌, ◌<◌, ◌≤◌, List, [], ◌∷◌, ◌++◌, map, length, get_or, take, IfOk, Ok, Err, Result, sym, refl, ap, ◌∙◌, subst, ap₂, arith}
 use Rattle.std.proofs.lemmas.List.{take_more, map_push}
 use Rattle.model.specs.declared.nodes.Node.{Node}
-use Rattle.model.specs.declared.nodes.Node.TheVariants.{Nothing, Rule, Element, Union, Seq, Star}
-use Rattle.theory.specs.Language.{Expr, none, rule, element, union, seq, star}
+use Rattle.model.specs.declared.nodes.Node.TheVariants.{Nothing, Rule, Union, Seq}
+use Rattle.theory.specs.Language.{Expr, none, rule, union, seq}
 use Rattle.theory.specs.Tree.{trees, of_node}
 use Rattle.expressions.specs.Numbers.{tree}
 use Rattle.expressions.specs.Records.{same_node}
@@ -47,15 +47,6 @@ pub placed_new : (nodes after : List Node) (places : List ℕ) (c : ℕ) (r : Re
 placed_new nodes after places c r fine past e =
     subst (λ x. IfOk r (λ i. Numbered nodes after i x)) (sym (shown_past nodes places c past))
     (enter_made nodes after Nothing r fine tt e)
-
--- nodes of one part
-pub moved_element : (old new : List Node) (es : List Expr) (n c i : ℕ) → Numbered old new i (get_or es c none) →
-    Moved old new (Element n i) (of_node es (Element n c))
-moved_element old new es n c i p = (p.0, p.1, p.2, ap (element n) p.3)
-
-pub moved_star : (old new : List Node) (es : List Expr) (a i : ℕ) → Numbered old new i (get_or es a none) →
-    Moved old new (Star i) (of_node es (Star a))
-moved_star old new es a i p = (p.0, p.1, p.2, ap star p.3)
 
 -- the book was added to in between
 pub below_then : (old mid : List Node) (places : List ℕ) (i : ℕ) (e : Expr) → Numbered old mid i e →

@@ -1,6 +1,6 @@
 -- The test of lawful recursion, step by step over the table of ways.
-use Rattle.std.proofs.Common.{◌≡◌, ℕ, ◌+◌, ◌<◌, ◌≤◌, Bool, true, false, not, List, [], ◌∷◌, ◌++◌, length, get_or, sym, refl, ap, ◌∙◌, subst, ⊎_elim, arith}
-use Rattle.std.proofs.lemmas.List.{get_or_past, get_or_append_left, get_or_push, length_push}
+use Rattle.std.proofs.Common.{◌≡◌, ℕ, ◌+◌, ◌<◌, ◌≤◌, Bool, true, false, not, List, [], ◌∷◌, ◌++◌, length, get_or, sym, refl, ap, ◌∙◌, vec_items, subst, ap₂, ⊎_elim, arith}
+use Rattle.std.proofs.lemmas.List.{get_or_past, get_or_append_left, get_or_default, get_or_push, length_push}
 use Rattle.std.proofs.lemmas.Bool.{cases_lt, cases_eq, lt-ltb, le-ltb, cond-true, cond-false, not-true, not-false}
 use Rattle.model.specs.declared.nodes.Node.{Node}
 use Rattle.model.specs.declared.nodes.Node.TheVariants.{Nothing, Empty, Simple, Rule, Element, Union, Seq, Star}
@@ -12,6 +12,8 @@ use Rattle.expressions.specs.Numbers.{earlier, body_at, tree, built, null_at}
 use Rattle.expressions.specs.Ways.{bent, guarded, open?}
 use Rattle.expressions.proofs.Trees.{tree_built, tree_past, body_tree}
 use Rattle.expressions.proofs.Lawful.{accepted, refused}
+use Rattle.states.specs.declared.grammar.Rules.{Rules}
+use Rattle.states.specs.declared.nullable.Expressions.{Expressions}
 use Rattle.states.specs.declared.recursion.Ways.{Ways}
 use Rattle.states.specs.Test.{no_ways, either_ways, turn_ways, bent_ways, ways_from, ways_node, Filled, passes}
 
@@ -100,11 +102,14 @@ unfolding passes
 not_passed nodes bodies k e lawful = refused (body_of nodes bodies) k (not-false _ (sym e)) lawful
 
 -- the ways of the next node, computed by what it is
-pub next_ways : (nodes : List Node) (bodies : List ℕ) (k : ℕ) (table : List Ways) (node n : Node) (w : Ways) →
-    length table < length nodes → length nodes ≤ 512 → node ≡ get_or nodes (length table) Nothing → node ≡ n →
-    w ≡ ways_node nodes bodies k (length table) n → w ≡ ways_from nodes bodies k (length table)
-next_ways nodes bodies k table node n w lt small is same e =
-    e ∙ ap (ways_node nodes bodies k (length table)) (sym same ∙ is) ∙ sym (ways_step nodes bodies k (length table) lt small)
+pub next_ways : (e : Expressions) (k : ℕ) (table : List Ways) (node n : Node) (w : Ways) →
+    length table < length (vec_items e.nodes) → node ≡ get_or (vec_items e.nodes) (length table) node → node ≡ n →
+    w ≡ ways_node (vec_items e.nodes) (vec_items e.rules.bodies) k (length table) n →
+    w ≡ ways_from (vec_items e.nodes) (vec_items e.rules.bodies) k (length table)
+next_ways e k table node n w lt at is own =
+    own ∙ ap (ways_node (vec_items e.nodes) (vec_items e.rules.bodies) k (length table))
+    (sym is ∙ at ∙ get_or_default (vec_items e.nodes) (length table) node Nothing lt)
+    ∙ sym (ways_step (vec_items e.nodes) (vec_items e.rules.bodies) k (length table) lt e.fine.0)
 
 pub union_ways : (nodes : List Node) (bodies : List ℕ) (k : ℕ) (table : List Ways) (a b : ℕ) (x y w : Ways) →
     length nodes ≤ 512 → Filled nodes bodies k table → x ≡ get_or table a no_ways → y ≡ get_or table b no_ways →
@@ -123,7 +128,22 @@ seq_ways nodes bodies k table a b m x y w t small ok p q is null e =
     ∙ ap (turn_ways (ways_from nodes bodies k (earlier (length table) a)) (ways_from nodes bodies k (earlier (length table) b)))
     (null ∙ ap (null_at nodes bodies k) is)
 
-pub star_ways : (nodes : List Node) (bodies : List ℕ) (k : ℕ) (table : List Ways) (a : ℕ) (x : Ways) →
-    length nodes ≤ 512 → Filled nodes bodies k table → x ≡ get_or table a no_ways →
-    bent_ways x ≡ ways_node nodes bodies k (length table) (Star a)
-star_ways nodes bodies k table a x small ok p = ap bent_ways (p ∙ part_ways nodes bodies k table a small ok)
+pub star_ways : (nodes : List Node) (bodies : List ℕ) (k : ℕ) (table : List Ways) (a : ℕ) (x w : Ways) →
+    length nodes ≤ 512 → Filled nodes bodies k table → x ≡ get_or table a no_ways → w ≡ bent_ways x →
+    w ≡ ways_node nodes bodies k (length table) (Star a)
+star_ways nodes bodies k table a x w small ok p e = e ∙ ap bent_ways (p ∙ part_ways nodes bodies k table a small ok)
+
+-- a table is filled, and a rule passes, where book and rules are the same
+pub filled_same : (old new : Expressions) (k : ℕ) (table : List Ways) → new.nodes ≡ old.nodes → new.rules ≡ old.rules →
+    Filled (vec_items old.nodes) (vec_items old.rules.bodies) k table → Filled (vec_items new.nodes) (vec_items new.rules.bodies) k table
+filled_same old new k table p q ok =
+    subst (λ n. Filled (vec_items n) (vec_items new.rules.bodies) k table) (sym p)
+    (subst (λ (u : Rules). Filled (vec_items old.nodes) (vec_items u.bodies) k table) (sym q) ok)
+
+pub same_ways : (old new : Expressions) (k i : ℕ) → new.nodes ≡ old.nodes → new.rules ≡ old.rules →
+    ways_from (vec_items new.nodes) (vec_items new.rules.bodies) k i ≡ ways_from (vec_items old.nodes) (vec_items old.rules.bodies) k i
+same_ways old new k i p q = ap₂ (λ n (u : Rules). ways_from (vec_items n) (vec_items u.bodies) k i) p q
+
+pub same_passes : (old new : Expressions) (k : ℕ) → new.nodes ≡ old.nodes → new.rules ≡ old.rules →
+    passes (vec_items new.nodes) (vec_items new.rules.bodies) k ≡ passes (vec_items old.nodes) (vec_items old.rules.bodies) k
+same_passes old new k p q = ap₂ (λ n (u : Rules). passes (vec_items n) (vec_items u.bodies) k) p q

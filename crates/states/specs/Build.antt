@@ -1,5 +1,5 @@
 -- The states of a grammar while they are numbered, and the outcome of building.
-use Rattle.std.specs.Prelude.{◌≡◌, ℕ, ◌<◌, ◌≤◌, List, map, length, Ok, Err, vec_items, Result}
+use Rattle.std.specs.Prelude.{◌≡◌, ℕ, ◌<◌, ◌≤◌, List, map, length, Ok, Err, Result}
 use Rattle.model.specs.declared.nodes.Node.{Node}
 use Rattle.model.specs.declared.machine.State.{State}
 use Rattle.model.specs.declared.machine.Machine.{Machine}
@@ -8,14 +8,13 @@ use Rattle.theory.specs.Language.{Expr}
 use Rattle.theory.specs.Recursion.{LawfulRule, LawfulRules}
 use Rattle.theory.specs.Stands.{Stands}
 use Rattle.theory.specs.Tree.{body_of}
-use Rattle.expressions.specs.Fine.{Below, Grows}
+use Rattle.expressions.specs.Fine.{Below}
 use Rattle.expressions.specs.Derived.{AllIn}
 use Rattle.expressions.specs.States.{named, Separate, Extends, Stated, AllStated, total}
 use Rattle.states.specs.declared.error.BuildError.{BuildError}
 use Rattle.states.specs.declared.error.BuildError.TheVariants.{Recursion, TooLarge, NoMemory}
 use Rattle.states.specs.declared.derive.Work.{Work}
-use Rattle.states.specs.declared.grammar.Rules.{Rules}
-use Rattle.states.specs.Derive.{Goes}
+use Rattle.states.specs.Derive.{nodes_of, bodies_of, Goes}
 
 -- derivatives by expressions were turned into derivatives by states, which were added where new
 pub record Named (old new : List ℕ) (ds by_states : List Derivative) : Type 0 where
@@ -31,18 +30,18 @@ abbrev pub Numbering : List Node → List ℕ → Type 0
 Numbering nodes numbers = Separate numbers × (length numbers ≤ 128) × Below (length nodes) numbers
 
 -- the state of the expression number i was made
-pub record Stating (rules : Rules) (old new : Work) (before after : List ℕ) (i : ℕ) (s : State) : Type 0 where
-  pub goes : Goes rules old new
-  pub numbers : Numbering (vec_items new.nodes) after
+pub record Stating (old new : Work) (before after : List ℕ) (i : ℕ) (s : State) : Type 0 where
+  pub goes : Goes old new
+  pub numbers : Numbering (nodes_of new) after
   pub extends : Extends before after
-  pub stated : Stated (vec_items new.nodes) (vec_items rules.bodies) after i (plain s)
+  pub stated : Stated (nodes_of new) (bodies_of new) after i (plain s)
 
 -- half-way through: all states so far have what their expressions have
-pub record SoFar (rules : Rules) (old new : List Node) (before after : List ℕ) (states : List Plain) : Type 0 where
-  pub nodes : Grows old new
-  pub numbers : Numbering new after
+pub record SoFar (old new : Work) (before after : List ℕ) (states : List Plain) : Type 0 where
+  pub goes : Goes old new
+  pub numbers : Numbering (nodes_of new) after
   pub extends : Extends before after
-  pub stated : AllStated new (vec_items rules.bodies) after states
+  pub stated : AllStated (nodes_of new) (bodies_of new) after states
   pub few : total states ≤ 512
 
 -- The outcome for a grammar with these nodes and bodies. A machine comes of it only if all rules are

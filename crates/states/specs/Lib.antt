@@ -1,7 +1,9 @@
 pub mod Fault
+pub mod Blank
 pub mod Book
 pub mod Memo
 pub mod Test
 pub mod Read
+pub mod Spans
 pub mod Derive
 pub mod Build

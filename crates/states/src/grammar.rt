@@ -42,11 +42,7 @@ impl Rules {
     pub fn body(&self, k: usize) -> usize
         ensures { result ≡ body_at self.now.bodies.items k }
     {
-        if k < self.bodies.len() {
-            self.bodies[k]
-        } else {
-            EXPRESSIONS
-        }
+        self.bodies.get(k).copied().unwrap_or(EXPRESSIONS)
     }
 }
 
@@ -56,10 +52,9 @@ fn placed(nodes: &mut Vec<Node>, places: &[usize], c: usize) -> Result<usize, Li
     requires below { Below (length nodes.old.items) places.now }
     ensures { IfOk result (λ i. Numbered nodes.old.items nodes.new.items i (slice_index_or (shown nodes.old.items places.now) c none)) }
 {
-    if c < places.len() {
-        Ok(places[c])
-    } else {
-        enter(nodes, EXPRESSIONS, Node::Nothing)
+    match places.get(c).copied() {
+        Some(place) => Ok(place),
+        None => enter(nodes, EXPRESSIONS, Node::Nothing),
     }
 }
 

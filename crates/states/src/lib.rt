@@ -6,5 +6,7 @@ mod derive;
 mod entering;
 pub mod error;
 mod grammar;
+mod joining;
+mod memo;
 mod nullable;
 mod recursion;

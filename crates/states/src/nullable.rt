@@ -1,79 +1,78 @@
 // Whether expressions are nullable.
-ghost use Rattle.std.specs.Prelude.{◌≡◌, ℕ, ◌+◌, ◌*◌, ◌<◌, ◌≤◌, length, slice_index_or, slice_set};
-ghost use Rattle.expressions.specs.Numbers.{null_at};
-ghost use Rattle.states.specs.declared.nullable.Known.TheVariants.{Unknown};
-ghost use Rattle.states.specs.Memo.{known, Sound};
+ghost use Rattle.std.specs.Prelude.{length};
+ghost use Rattle.expressions.specs.Fine.{Fine, Below};
+ghost use Rattle.expressions.specs.Props.{Fine-prop, Below-prop};
+ghost use Rattle.states.specs.Blank.{IsEmpty, IsEmpty-prop};
+ghost use Rattle.states.specs.Memo.{notes, Sound, Sound-prop};
 
-use crate::grammar::{EXPRESSIONS, Rules, earlier_of};
+use crate::grammar::{Rules, earlier_of};
+use crate::memo::Memo;
 use model::nodes::Node;
+use std::alloc::{AllocError, Global};
 
-// At most so many rules.
-pub const RULES: usize = 32;
-
-// What is known of an expression below a rule.
-#[derive(Clone, Copy)]
-pub enum Known {
-    Unknown,
-    No,
-    Yes,
+// A book of expressions with the rules, and what is noted of nullability, which is right.
+#[derive(Drop)]
+pub struct Expressions {
+    pub nodes: Vec<Node>,
+    pub rules: Rules,
+    pub nulls: Memo<bool>,
+    pub ghost fine: { Fine nodes.items } by { Fine-prop nodes.items },
+    pub ghost within: { Below (length nodes.items) rules.bodies.items } by { Below-prop (length nodes.items) rules.bodies.items },
+    pub ghost blank: { IsEmpty nodes.items rules.empty } by { IsEmpty-prop nodes.items rules.empty },
+    pub ghost sound: { Sound nodes.items rules.bodies.items (notes nulls) } by { Sound-prop nodes.items rules.bodies.items (notes nulls) },
 }
 
-// What is known of the node below the rule.
-fn look(memo: &[Known], rule: usize, node: usize) -> Known
-    requires { (rule ≤ 32) × (node < 512) }
-    ensures { result ≡ slice_index_or memo.now (rule * 512 + node) Unknown }
-{
-    let i = rule * EXPRESSIONS + node;
-    if i < memo.len() {
-        memo[i]
-    } else {
-        Known::Unknown
-    }
-}
+impl Expressions {
+    ghost use Rattle.std.specs.Prelude.{◌≡◌, IfOk};
+    ghost use Rattle.expressions.specs.Numbers.{null_at};
 
-// Notes an answer.
-fn note(memo: &mut [Known], rule: usize, node: usize, answer: bool)
-    requires { (rule ≤ 32) × (node < 512) }
-    ensures { memo.new ≡ slice_set memo.old (rule * 512 + node) (known answer) }
-{
-    let i = rule * EXPRESSIONS + node;
-    if i < memo.len() {
-        memo[i] = if answer { Known::Yes } else { Known::No };
+    // The expressions with nothing noted.
+    pub fn new(heap: Global, nodes: Vec<Node>, rules: Rules) -> Result<Expressions, AllocError>
+        requires fine { Fine nodes.items }
+        requires within { Below (length nodes.items) rules.bodies.items }
+        requires blank { IsEmpty nodes.items rules.empty }
+        ensures { IfOk result (λ e. (e.nodes ≡ nodes) × (e.rules ≡ rules)) }
+    {
+        let nulls = Memo::new(heap)?;
+        Ok(Expressions {
+            nodes,
+            rules,
+            nulls,
+        })
     }
-}
 
-// Whether a node is nullable, where only the rules below `rule` are known. A mention is followed
-// into that rule's body.
-pub fn nullable(nodes: &[Node], rules: &Rules, memo: &mut [Known], rule: usize, node: usize) -> bool
-    requires small { rule ≤ 32 }
-    requires few { length nodes.now ≤ 512 }
-    requires sound { Sound nodes.now rules.now.bodies.items memo.old }
-    ensures value { result ≡ null_at nodes.now rules.now.bodies.items rule node }
-    ensures sound { Sound nodes.now rules.now.bodies.items memo.new }
-{
-    if node >= nodes.len() || node >= EXPRESSIONS {
-        return false;
-    }
-    match look(memo, rule, node) {
-        Known::Yes => return true,
-        Known::No => return false,
-        Known::Unknown => {}
-    }
-    let answer = match nodes[node] {
-        Node::Nothing | Node::Simple(_) | Node::Element(_, _) => false,
-        Node::Empty | Node::Star(_) => true,
-        Node::Rule(k) => k < rule && nullable(nodes, rules, memo, k, rules.body(k)),
-        Node::Union(a, b) => {
-            let left = nullable(nodes, rules, memo, rule, earlier_of(node, a));
-            let right = nullable(nodes, rules, memo, rule, earlier_of(node, b));
-            left || right
+    // Whether a node is nullable, where only the rules below `rule` are known. A mention is followed
+    // into that rule's body.
+    pub fn nullable(&mut self, rule: usize, node: usize) -> bool
+        ensures value { result ≡ null_at self.old.nodes.items self.old.rules.bodies.items rule node }
+        ensures nodes { self.new.nodes ≡ self.old.nodes }
+        ensures rules { self.new.rules ≡ self.old.rules }
+    {
+        if node >= self.nodes.len() {
+            return false;
         }
-        Node::Seq(a, b) => {
-            let left = nullable(nodes, rules, memo, rule, earlier_of(node, a));
-            let right = nullable(nodes, rules, memo, rule, earlier_of(node, b));
-            left && right
+        if let Some(answer) = self.nulls.get(rule, node) {
+            return answer;
         }
-    };
-    note(memo, rule, node, answer);
-    answer
+        let answer = match self.nodes[node] {
+            Node::Nothing | Node::Simple(_) | Node::Element(_, _) => false,
+            Node::Empty | Node::Star(_) => true,
+            Node::Rule(k) => {
+                let body = self.rules.body(k);
+                k < rule && self.nullable(k, body)
+            }
+            Node::Union(a, b) => {
+                let left = self.nullable(rule, earlier_of(node, a));
+                let right = self.nullable(rule, earlier_of(node, b));
+                left || right
+            }
+            Node::Seq(a, b) => {
+                let left = self.nullable(rule, earlier_of(node, a));
+                let right = self.nullable(rule, earlier_of(node, b));
+                left && right
+            }
+        };
+        self.nulls.set(rule, node, answer);
+        answer
+    }
 }

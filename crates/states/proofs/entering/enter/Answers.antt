@@ -1,4 +1,4 @@
-use Rattle.std.proofs.Common.{◌≡◌, length, vec_items, sym, ap, ◌∙◌, arith}
+use Rattle.std.proofs.Common.{◌≡◌, ◌+◌, length, vec_items, sym, refl, ap, ◌∙◌, arith}
 use Rattle.std.specs.List.{position}
 use Rattle.std.proofs.lemmas.List.{length_push}
 use Rattle.std.proofs.lemmas.Bool.{lt-ltb}
@@ -18,9 +18,11 @@ returns-then-number-limit g c =
     let book = vec_items c.args.records.now in
     let h = missing g.T.PartialEq.eq book c.args.x
     (sym c.in_default.is ∙ c.find.ensures ∙ ap (position (g.T.PartialEq.eq c.args.x)) c.as_slice.ensures.value) in
-    let ok = c.args.records.now.ok.0 in
-    lt-ltb c.args.limit (length (enter g.T.PartialEq.eq book c.args.x))
-    (omega (arith, ap length h.1, length_push book c.args.x))
+    let ok = c.args.records.now.ok.0 in (
+      refl,
+      lt-ltb c.args.limit (length (enter g.T.PartialEq.eq book c.args.x))
+          (omega (arith, ap length h.1, length_push book c.args.x)),
+    )
 
 pub returns : goal.returns
 returns g c =
@@ -29,6 +31,6 @@ returns g c =
     (sym c.in_default.is ∙ c.find.ensures ∙ ap (position (g.T.PartialEq.eq c.args.x)) c.as_slice.ensures.value) in
     let ok = c.args.records.now.ok.0 in
     let pushed = c.in_ok-push.ensures.items in
-    let long = ap length pushed ∙ length_push book c.args.x in
+    let long : length (vec_items c.push.new.self) ≡ length book + 1 = ap length pushed ∙ length_push book c.args.x in
     let at : c.len-number.result ≡ length book = omega arith in
     (at ∙ h.0, pushed ∙ sym h.1, omega arith, λ small. omega arith)

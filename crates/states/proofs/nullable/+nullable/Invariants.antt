@@ -1,5 +1,0 @@
-use Rattle.expressions.specs.Numbers.{rank}
-use Rattle.states.proofs.nullable.+nullable.Given as goal
-
-abbrev pub decreases-nullable : goal.decreases-nullable
-decreases-nullable l = rank l.rule l.node
