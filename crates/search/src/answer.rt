@@ -15,7 +15,8 @@ use sides::entering::Stop;
 use sides::setting::Setting;
 
 // Whether the inclusion holds, with the number of rows met and of the records that show it; or why
-// the search stopped.
+// the search stopped. (Four outcomes in one enum, and no Result: a stop is an answer like the others,
+// which its caller prints with the number of rows met.)
 #[derive(Clone, Copy)]
 pub enum Answer {
     Included { met: usize, records: usize },
@@ -23,6 +24,9 @@ pub enum Answer {
     Wide { met: usize },
     OutOfRows { met: usize },
 }
+
+// A question is searched within at most so many rows.
+const MOST_ROWS: usize = 512;
 
 // Decides a question whose reachable inequalities stand in the first rows.
 fn decide(
@@ -32,7 +36,10 @@ fn decide(
     items: &mut [Item],
     marks: &mut [Option<usize>],
 ) -> Answer
-    requires { (0 < count) × ((count ≤ length rows.old) × ((Sided (seen setting.now) (take count rows.old)) × (Roomy (seen setting.now) (take count rows.old) marks.old items.old))) }
+    requires some { 0 < count }
+    requires within { count ≤ length rows.old }
+    requires sided { Sided (seen setting.now) (take count rows.old) }
+    requires roomy { Roomy (seen setting.now) (take count rows.old) marks.old items.old }
     ensures { Decided (seen setting.now) (take count rows.old) (slice_index_or (take count rows.old) 0 blank_row) (length rows.old) (length items.old) result rows.new items.new }
 {
     let met = MetRows {
@@ -94,7 +101,7 @@ pub fn question(
     ensures { Asked (seen setting.now) (root_of left right) (length rows.old) (length items.old) (suits (length rows.old) (length items.old) (length marks.old)) result rows.new items.new }
 {
     let count = rows.len();
-    if (count > 0) & (count <= 512) & (count <= items.len()) & (count <= marks.len()) {
+    if count > 0 && count <= MOST_ROWS && count <= items.len() && count <= marks.len() {
         let root = Row {
             left,
             right: StateSet::empty().with(right),

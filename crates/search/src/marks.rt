@@ -30,7 +30,8 @@ impl MetRows<'_> {
         items: &mut [Item],
         used: usize,
     ) -> usize
-        requires { (i < length self.now.rows.now) × (Ready (seen self.now.setting.now) self.now.rows.now marks.old items.old used) }
+        requires row { i < length self.now.rows.now }
+        requires ready { Ready (seen self.now.setting.now) self.now.rows.now marks.old items.old used }
         ensures { Step (seen self.now.setting.now) self.now.rows.now i marks.old marks.new items.new used result }
     {
         if marks[i].is_some() {
@@ -61,7 +62,8 @@ impl MetRows<'_> {
     // Marks refuted rows until the first one is marked or no further row can be. Gives the number of
     // items used.
     pub(crate) fn settle(&self, marks: &mut [Option<usize>], items: &mut [Item]) -> usize
-        requires { (0 < length self.now.rows.now) × (Roomy (seen self.now.setting.now) self.now.rows.now marks.old items.old) }
+        requires some { 0 < length self.now.rows.now }
+        requires roomy { Roomy (seen self.now.setting.now) self.now.rows.now marks.old items.old }
         ensures { Settled (seen self.now.setting.now) self.now.rows.now marks.new items.new result }
     {
         self.begin(marks);

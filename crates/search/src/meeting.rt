@@ -1,7 +1,7 @@
 // The breadth-first meeting of the inequalities that are reachable from a root.
 ghost use Rattle.std.specs.Prelude.{◌≡◌, ◌<◌, ◌≤◌, [], length, take};
 ghost use Rattle.theory.specs.Meeting.{Met, meet as meet_rows};
-ghost use Rattle.book.specs.Feeding.{holds, room};
+ghost use Rattle.book.specs.Feeding.{holds, room, Kept};
 ghost use Rattle.sides.specs.View.{seen};
 ghost use Rattle.search.specs.Ends.{met_by};
 
@@ -19,10 +19,10 @@ pub struct Meeting {
 
 // Enters the root in an empty book, takes the rows of the book in order, and enters the sides of each.
 fn walk(setting: &Setting<'_>, root: Row, book: &mut Book<'_, Row>) -> Result<(), Stop>
-    requires { (holds book.old ≡ []) × (0 < room book.old) }
+    requires empty { holds book.old ≡ [] }
+    requires some { 0 < room book.old }
     ensures met { met_by result (holds book.new) ≡ meet_rows (seen setting.now) (room book.old) root }
-    ensures len { room book.new ≡ room book.old }
-    ensures lent { book.new.records.ghost_name ≡ book.old.records.ghost_name }
+    ensures kept { Kept book.old book.new }
 {
     book.put(root)?;
     let mut taken = 0;

@@ -42,8 +42,8 @@ impl MetRows<'_> {
         })
     }
 
-    // The first item over all subsets of the pairs. (A `for`, since the clause of `find_map` ties its
-    // answer to no list.)
+    // The first item over all subsets of the pairs. (A `for`, here and below: no clause or lemma of
+    // std ties what `find_map` gives to the list that it goes over.)
     fn of_subsets(
         &self,
         marks: &[Option<usize>],
@@ -86,7 +86,8 @@ impl MetRows<'_> {
 
     // The same under the name t, for a row that is not wide.
     fn of_name(&self, marks: &[Option<usize>], row: &Row, t: usize) -> Option<Item>
-        requires { (wide_row (seen self.now.setting.now) row.now ≡ false) × (t < names_of self.now.setting.now.covers.now) }
+        requires narrow { wide_row (seen self.now.setting.now) row.now ≡ false }
+        requires name { t < names_of self.now.setting.now.covers.now }
         ensures { result ≡ derivative_item (seen self.now.setting.now) self.now.rows.now marks.now t row.now.left (distinct_pairs (seen self.now.setting.now) t row.now.right.bits) }
     {
         if !self.setting.is_labelled(row.left, t) {

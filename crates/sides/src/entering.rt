@@ -1,5 +1,7 @@
 // Taking an inequality: the sides of all its either-ors are entered in a book of rows, names rising,
 // derivatives of the left in order, subsets rising, the content side first.
+// The search for a refutation (`search`) goes the same way and stays apart: a walk that calls a
+// closure which fills the book tells a proof nothing of the book afterwards.
 ghost use Rattle.std.specs.Prelude.{◌≡◌, ◌^◌, ◌<◌, ◌≤◌, false, length};
 ghost use Rattle.std.specs.Result.{is_ok};
 ghost use Rattle.theory.specs.Count.{each};
@@ -85,7 +87,8 @@ impl Setting<'_> {
 
     // Enters the sides of all either-ors of a row, which is not wide, under the name t.
     fn enter_name(&self, row: &Row, t: usize, book: &mut Book<'_, Row>) -> Result<(), Full>
-        requires { (wide_row (seen self.now) row.now ≡ false) × (t < names_of self.now.covers.now) }
+        requires narrow { wide_row (seen self.now) row.now ≡ false }
+        requires name { t < names_of self.now.covers.now }
         ensures { Fills same_row book.old book.new (sides_of (of_name (seen self.now) row.now t)) (is_ok result) }
     {
         if !self.is_labelled(row.left, t) {
@@ -110,8 +113,7 @@ impl Setting<'_> {
 
     // Takes an inequality: enters its sides unless it is wide.
     pub fn take_row(&self, row: &Row, book: &mut Book<'_, Row>) -> Result<(), Stop>
-        ensures took { Took (seen self.now) row.now book.old book.new result }
-        ensures lent { book.new.records.ghost_name ≡ book.old.records.ghost_name }
+        ensures { Took (seen self.now) row.now book.old book.new result }
     {
         if self.is_wide(row) {
             return Err(Stop::Wide);

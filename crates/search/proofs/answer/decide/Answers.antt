@@ -17,11 +17,11 @@ returns-then-is_some c =
     let met = take c.args.count rows in
     let used = c.settle-used.result in
     let items = c.settle-used.new.items in
-    let long : length met ≡ c.args.count = length-take-le c.args.count rows c.requires.1.0 in
-    let some : 0 < length met = omega (arith, long, c.requires.0) in
+    let long : length met ≡ c.args.count = length-take-le c.args.count rows c.requires.within in
+    let some : 0 < length met = omega (arith, long, c.requires.some) in
     let all : length rows - 0 ≡ length rows = omega arith in (
       sym long,
-      decide_excluded m met c.settle-used.new.marks items used (length rows) (length c.args.items.now) some c.requires.1.1.0 c.settle-used.ensures
+      decide_excluded m met c.settle-used.new.marks items used (length rows) (length c.args.items.now) some c.requires.sided c.settle-used.ensures
           c.blank_from.new.records c.blank_from-then-is_some.new.records (sym c.is_some.ensures ∙ c.if-is_some.true)
           (c.blank_from.ensures ∙ ap₂ replicate all c.blank.ensures)
           (c.blank_from-then-is_some.ensures
@@ -36,8 +36,8 @@ returns c =
     let items = c.settle-used.new.items in
     let marks = c.settle-used.new.marks in
     let keep = c.keep_unmarked-records in
-    let long : length met ≡ c.args.count = length-take-le c.args.count rows c.requires.1.0 in
-    let some : 0 < length met = omega (arith, long, c.requires.0) in
+    let long : length met ≡ c.args.count = length-take-le c.args.count rows c.requires.within in
+    let some : 0 < length met = omega (arith, long, c.requires.some) in
     let enough : c.args.count ≤ length marks = omega (arith, long, c.settle-used.ensures.ready.roomy.marks_long) in
     let n : length (take c.args.count marks) ≡ c.args.count = length-take-le c.args.count marks enough in
     let fits : length (take c.args.count marks) ≤ length (take c.args.count marks) = omega arith in
@@ -47,7 +47,7 @@ returns c =
     (ap (map is_some) (take_all _ (take c.args.count marks) fits) ∙ ap (λ k. map is_some (take k marks)) (sym long)) in
     let all : length items - 0 ≡ length c.args.items.now = omega (arith, c.settle-used.auto.items) in (
       sym long,
-      decide_included m met marks items c.settle-used.result (length rows) (length c.args.items.now) some c.requires.1.1.0 c.settle-used.ensures
+      decide_included m met marks items c.settle-used.result (length rows) (length c.args.items.now) some c.requires.sided c.settle-used.ensures
           keep.result c.blank_from-2.new.records c.blank_from-3.new.records (no_mark marks 0 (sym c.is_some.ensures ∙ c.if-is_some.false))
           (keep.ensures.number ∙ ap length same)
           (c.blank_from-2.ensures

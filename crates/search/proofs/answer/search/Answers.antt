@@ -16,17 +16,14 @@ decide-requires c =
     let le : met.result.count ≤ length met.new.rows = omega (arith, met.ensures.within, met.auto.rows) in
     let long : length rows ≡ met.result.count = length-take-le met.result.count met.new.rows le in
     let some = met_some m limit c.args.root fit.0 met.result.end c.in_default.field-0 c.in_default.is rows met.ensures.met in
-    let within : length rows ≤ limit = omega (arith, long, met.ensures.within) in (
-      omega arith,
-      (
-        le,
-        (
-          met_sided m limit c.args.root fit.0 met.result.end c.in_default.field-0 c.in_default.is rows met.ensures.met,
-          met_roomy m limit c.args.root fit.0 met.result.end c.in_default.field-0 c.in_default.is rows met.ensures.met
-              c.args.marks.now c.args.items.now within fit.1 fit.2 fit.3,
-        ),
-      ),
-    )
+    let within : length rows ≤ limit = omega (arith, long, met.ensures.within) in
+    record {
+      some = omega arith;
+      within = le;
+      sided = met_sided m limit c.args.root fit.0 met.result.end c.in_default.field-0 c.in_default.is rows met.ensures.met;
+      roomy = met_roomy m limit c.args.root fit.0 met.result.end c.in_default.field-0 c.in_default.is rows met.ensures.met
+          c.args.marks.now c.args.items.now within fit.1 fit.2 fit.3;
+    }
 
 pub returns-in_default : goal.returns-in_default
 returns-in_default c =

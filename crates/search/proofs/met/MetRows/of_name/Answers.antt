@@ -18,5 +18,5 @@ returns-then-not-is_labelled c =
 pub returns-in-None : goal.returns-in-None
 returns-in-None c =
     let m = seen c.args.self.now.setting.now in
-    let few = few_pairs m c.args.row.now c.args.t c.requires.0 c.requires.1 (sym c.is_labelled.ensures ∙ c.if-not-is_labelled.false) in
+    let few = few_pairs m c.args.row.now c.args.t c.requires.narrow c.requires.name (sym c.is_labelled.ensures ∙ c.if-not-is_labelled.false) in
     absurd (true≢false (sym (le-leb _ 8 few) ∙ sym c.in-None.ensures.few))

@@ -5,4 +5,4 @@ use Rattle.search.proofs.met.MetRows.settle.Goals as goal
 pub loop-marks-init : goal.loop-marks-init
 loop-marks-init c =
     settle_start (seen c.args.self.now.setting.now) c.args.self.now.rows.now c.args.marks.now c.begin.new.marks c.args.items.now
-    c.requires.0 c.requires.1 c.begin.auto.marks c.begin.ensures
+    c.requires.some c.requires.roomy c.begin.auto.marks c.begin.ensures

@@ -24,5 +24,5 @@ returns-in-Some c =
 pub returns-in-None : goal.returns-in-None
 returns-in-None c =
     let m = seen c.args.self.now in
-    let few = few_pairs m c.args.row.now c.args.t c.requires.0 c.requires.1 (sym c.is_labelled.ensures ∙ c.if-not-is_labelled.false) in
+    let few = few_pairs m c.args.row.now c.args.t c.requires.narrow c.requires.name (sym c.is_labelled.ensures ∙ c.if-not-is_labelled.false) in
     absurd (true≢false (sym (le-leb _ 8 few) ∙ sym c.in-None.ensures.few))
