@@ -1,5 +1,5 @@
 -- The fixed words of a grammar text, and the order of its sections.
-use Rattle.std.specs.Prelude.{ℕ, Bool, cond, ◌&&◌, List, [], ◌∷◌, Ok, Err, codes, Result, ◌==◌, nat_le, nat_lt}
+use Rattle.std.specs.Prelude.{ℕ, Bool, cond, ◌&&◌, List, Ok, Err, codes, Result, ◌==◌, nat_le, nat_lt}
 use Rattle.model.specs.declared.names.Kind.{Kind}
 use Rattle.model.specs.declared.names.Kind.TheVariants as kind
 use Rattle.text.specs.declared.fault.LineFault.{LineFault}
@@ -23,11 +23,6 @@ key_word key.Under = codes "under"
 key_word key.Node = codes "node"
 key_word key.Rule = codes "rule"
 key_word key.End = codes "end"
-
--- what the word that the field is stands for, among words with what they stand for
-abbrev pub word_in : {X : Type 0} → View → List (List ℕ × X) → Result X LineFault
-word_in v [] = Err (Form (line_of v))
-word_in v (w ∷ ws) = cond (is_word w.0 v) (Ok w.1) (word_in v ws)
 
 -- the key that the field is
 abbrev pub key_in : View → Result Key LineFault

@@ -23,10 +23,10 @@ fn is_kind(kind: Kind, names: &[Name], i: usize) -> bool
 pub(crate) fn may_get_head(names: &[Name], name: usize, head: usize) -> bool
     ensures { result ≡ may_head names.now name head }
 {
-    if name >= names.len() || head >= name {
+    let Some(taker) = names.get(name) else {
         return false;
-    }
-    names[name].kind == names[head].kind && names[name].head.is_none()
+    };
+    head < name && taker.kind == names[head].kind && taker.head.is_none()
 }
 
 /// Whether the node refers to names of its kind and to earlier nodes; rules are judged later.

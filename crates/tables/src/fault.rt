@@ -5,11 +5,14 @@ ghost use Rattle.text.specs.declared.fault.TableFault.TheVariants.{Line as in_li
 
 use std::alloc::AllocError;
 use text::fault::{LineFault, TableFault};
+use thiserror::Error;
 
 /// A fault of the text, or want of memory.
-#[derive(Clone, Copy)]
+#[derive(Clone, Copy, Debug, PartialEq, Eq, Error)]
 pub enum ReadError {
+    #[error(transparent)]
     Fault(TableFault),
+    #[error("not enough memory to read the grammar")]
     Memory,
 }
 

@@ -6,6 +6,7 @@ use model::names::Name;
 use model::nodes::Node;
 
 /// The names and rules with their spellings, which are parts of the text, and the nodes.
+// One column for each, and no struct of a rule: an accessor lends its column as one slice, and copies none.
 #[derive(Drop)]
 pub struct Tables<'a> {
     pub(crate) names: Vec<Name>,

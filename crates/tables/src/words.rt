@@ -1,7 +1,7 @@
 //! The fixed words of a grammar text, and the order of its sections.
-ghost use Rattle.std.specs.Prelude.{◌≡◌, map};
+ghost use Rattle.std.specs.Prelude.{◌≡◌};
 ghost use Rattle.text.specs.Fields.{view};
-ghost use Rattle.tables.specs.Words.{word_in, key_in, kind_in, version_in, leads, allowed};
+ghost use Rattle.tables.specs.Words.{key_in, kind_in, version_in, leads, allowed};
 
 use model::names::Kind;
 use text::fault::LineFault;
@@ -29,50 +29,32 @@ pub enum Stage {
     Ended,
 }
 
-/// What the word that the field is stands for; a field that is none of the words is refused.
-fn word_in<T: Copy>(field: Field, words: &[(&[u8], T)]) -> Result<T, LineFault>
-    ensures { result ≡ word_in (view field.entry) (map (λ w. (w.0.now, w.1)) words.now) }
-{
-    for (word, meaning) in words {
-        if field.is(word) {
-            return Ok(*meaning);
-        }
-    }
-    Err(LineFault::Form { line: field.line() })
-}
-
 /// The key that the field is.
 pub(crate) fn key_in(field: Field) -> Result<Key, LineFault>
     ensures { result ≡ key_in (view field.entry) }
 {
-    word_in(
-        field,
-        &[
-            (b"grammar", Key::Grammar),
-            (b"name", Key::Name),
-            (b"under", Key::Under),
-            (b"node", Key::Node),
-            (b"rule", Key::Rule),
-            (b"end", Key::End),
-        ],
-    )
+    field.one_of(&[
+        (b"grammar", Key::Grammar),
+        (b"name", Key::Name),
+        (b"under", Key::Under),
+        (b"node", Key::Node),
+        (b"rule", Key::Rule),
+        (b"end", Key::End),
+    ])
 }
 
 /// The kind of name that the field is.
 pub(crate) fn kind_in(field: Field) -> Result<Kind, LineFault>
     ensures { result ≡ kind_in (view field.entry) }
 {
-    word_in(
-        field,
-        &[(b"simple", Kind::Simple), (b"element", Kind::Element)],
-    )
+    field.one_of(&[(b"simple", Kind::Simple), (b"element", Kind::Element)])
 }
 
 /// Refuses another number of the format than 1.
 pub(crate) fn version_in(field: Field) -> Result<(), LineFault>
     ensures { result ≡ version_in (view field.entry) }
 {
-    word_in(field, &[(b"1", ())])
+    field.one_of(&[(b"1", ())])
 }
 
 impl Stage {

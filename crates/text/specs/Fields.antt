@@ -1,8 +1,8 @@
 -- Fields as a line has them, without the references that the code holds.
-use Rattle.std.specs.Prelude.{ℕ, Bool, false, cond, List, Some, None, Ok, Err, Option, Result}
+use Rattle.std.specs.Prelude.{ℕ, Bool, false, cond, List, [], ◌∷◌, Some, None, Ok, Err, Option, Result}
 use Rattle.std.specs.Str.{bytes_eq}
 use Rattle.text.specs.declared.fault.LineFault.{LineFault}
-use Rattle.text.specs.declared.fault.LineFault.TheVariants.{Number as bad_number, Spelling as bad_spelling}
+use Rattle.text.specs.declared.fault.LineFault.TheVariants.{Form, Number as bad_number, Spelling as bad_spelling}
 use Rattle.text.specs.declared.field.Field.{Field}
 use Rattle.text.specs.declared.field.Field.TheVariants.{Key, Number, Spelling}
 use Rattle.text.specs.Forms.{number_of, is_spelling}
@@ -53,6 +53,11 @@ abbrev pub is_word : List ℕ → View → Bool
 is_word w (key n bs) = bytes_eq bs w
 is_word w (number n bs) = false
 is_word w (spelling n bs) = false
+
+-- what the word that the field is stands for, among words with what each stands for
+abbrev pub one_of : {X : Type 0} → View → List (List ℕ × X) → Result X LineFault
+one_of v [] = Err (Form (line_of v))
+one_of v (w ∷ ws) = cond (is_word w.0 v) (Ok w.1) (one_of v ws)
 
 -- a result at what its success stands for
 abbrev pub seen : {X Y E : Type 0} → (X → Y) → Result X E → Result Y E

@@ -1,6 +1,6 @@
 //! Fields that borrow from their line and know its number.
-ghost use Rattle.std.specs.Prelude.{◌≡◌};
-ghost use Rattle.text.specs.Fields.{view, line_of, bytes_of, value_in, spelling_in, is_word, seen};
+ghost use Rattle.std.specs.Prelude.{◌≡◌, map};
+ghost use Rattle.text.specs.Fields.{view, line_of, bytes_of, value_in, spelling_in, is_word, one_of, seen};
 
 use crate::fault::LineFault;
 use crate::form::{is_name, number};
@@ -43,6 +43,18 @@ impl<'a> Field<'a> {
         ensures { result ≡ is_word word.now (view self.entry) }
     {
         matches!(self, Field::Key { bytes, .. } if bytes == word)
+    }
+
+    /// What it stands for among words with what each stands for; another field is of a wrong form.
+    pub fn one_of<T: Copy>(self, words: &[(&[u8], T)]) -> Result<T, LineFault>
+        ensures { result ≡ one_of (view self.entry) (map (λ w. (w.0.now, w.1)) words.now) }
+    {
+        for (word, meaning) in words {
+            if self.is(word) {
+                return Ok(*meaning);
+            }
+        }
+        Err(LineFault::Form { line: self.line() })
     }
 
     /// The value of a number field.

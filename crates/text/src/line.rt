@@ -27,10 +27,10 @@ pub struct Fields<'a> {
 pub fn whole(text: &[u8], limit: usize) -> Result<(), LineFault>
     ensures { result ≡ whole_text limit text.now }
 {
-    if text.is_empty() || text.len() > limit || text[text.len() - 1] != b'\n' {
-        return Err(LineFault::Form { line: 1 });
+    match text.last() {
+        Some(b'\n') if text.len() <= limit => Ok(()),
+        _ => Err(LineFault::Form { line: 1 }),
     }
-    Ok(())
 }
 
 /// Where the first mark stands, if there is one.
