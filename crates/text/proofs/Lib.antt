@@ -1,3 +1,2 @@
 -- Lemmas of the text crate.
 mod Cuts
-mod Decimals

@@ -1,20 +1,16 @@
-use Rattle.std.proofs.Common.{◌≡◌, ◌+◌, min, ◌∷◌, length, drop, sym, refl, ap, ◌∙◌}
-use Rattle.std.proofs.lemmas.List.{at_drop_all, take_rest}
+use Rattle.std.proofs.Common.{◌≡◌, ◌+◌, min, ◌∷◌, length, drop, sym, ap, ◌∙◌}
+use Rattle.std.proofs.lemmas.List.{take_rest}
 use Rattle.text.specs.Pieces.{before, lines}
 use Rattle.text.proofs.Cuts.{lines_step}
 use Rattle.text.proofs.reader.Reader.next_line.Goals as goal
 
-pub returns-then-self : goal.returns-then-self
-returns-then-self c = record { given = at_drop_all lines c.args.self.now.text.now c.args.self.now.at c.if-self.true; counted = refl }
-
-pub returns : goal.returns
-returns c =
+pub returns-clause-given : goal.returns-clause-given
+returns-clause-given c =
     let xs = c.args.self.now.text.now in
     let i = c.args.self.now.at in
     let front : c.cut.result.0.now ≡ before 10 (drop i xs) = c.cut.ensures.front ∙ ap (before 10) (take_rest xs i) in
     let next : c.min-self.result ≡ min (i + length (before 10 (drop i xs)) + 1) (length xs) =
     c.min-self.ensures ∙ ap (λ p. min (i + length p + 1) (length xs)) front in
-    record {
-      given = lines_step xs i c.if-self.false ∙ ap (λ p. p ∷ lines (drop (min (i + length (before 10 (drop i xs)) + 1) (length xs)) xs)) (sym (c.new.ensures.bytes ∙ front)) ∙ ap (λ n. c.new.result.bytes.now ∷ lines (drop n xs)) (sym next);
-      counted = (c.new.ensures.number, refl);
-    }
+    lines_step xs i c.if-self.false
+    ∙ ap (λ p. p ∷ lines (drop (min (i + length (before 10 (drop i xs)) + 1) (length xs)) xs)) (sym (c.new.ensures.bytes ∙ front))
+    ∙ ap (λ n. c.new.result.bytes.now ∷ lines (drop n xs)) (sym next)
