@@ -35,6 +35,7 @@ pub(crate) fn slot(row: &Row) -> usize
 
 impl Grounds<'_> {
     /// The grounds of these rows and settled pairs.
+    #[tactic(auto, using(crate::proofs::Linked::heads_more, crate::proofs::Linked::links_more))]
     pub fn new<'a>(rows: &'a [Row], ledger: &'a Ledger, rules: usize) -> Grounds<'a>
         ensures rows { result.rows.now ≡ rows.now }
         ensures ledger { result.ledger.now ≡ ledger.now }

@@ -70,6 +70,7 @@ fn set_of(sets: &[StateSet], k: usize) -> StateSet
 }
 
 /// Puts the set of each hedge number into the table: 0 is the empty hedge, k begins at item k.
+#[tactic(auto, using(crate::proofs::Filling::filling_start))]
 fn fill(setting: &Setting<'_>, items: &[Item], sets: &mut [StateSet])
     requires { length items.now < length sets.old }
     ensures table { take (length items.now + 1) (bits_of sets.new) ≡ state_sets (seen setting.now) items.now }
@@ -85,6 +86,7 @@ fn fill(setting: &Setting<'_>, items: &[Item], sets: &mut [StateSet])
 
 /// The states that have the hedge that the items spell; `sets` is working memory, one set more than
 /// there are items. Nothing where it is shorter.
+#[tactic(auto, using(crate::proofs::Filling::filled_last), unfolding(crate::specs::Sets::spelled_set))]
 pub fn hedge_states(
     setting: &Setting<'_>,
     items: &[Item],

@@ -1,16 +1,12 @@
-use Rattle.std.proofs.Common.{◌≡◌, ◌+◌, ◌<◌, List, length, get_or, take, sym, ap, ◌∙◌, ap₂, arith}
-use Rattle.std.proofs.lemmas.List.{take_all, length-set}
+use Rattle.std.proofs.Common.{◌+◌, ◌<◌, List, length, get_or, take, ◌∙◌, ap₂, arith}
+use Rattle.std.proofs.lemmas.List.{length-set}
 use Rattle.model.specs.declared.rows.Item.{Item}
 use Rattle.model.specs.Blank.{blank_item}
 use Rattle.theory.specs.Machine.{Machine}
-use Rattle.meaning.specs.Tables.{gather, takes, item_set, state_sets}
+use Rattle.meaning.specs.Tables.{gather, takes, item_set}
 use Rattle.sides.specs.View.{seen}
-use Rattle.member.specs.Sets.{bits_of}
-use Rattle.member.proofs.Filling.{filling_start, filled_at, filling_more}
+use Rattle.member.proofs.Filling.{filled_at, filling_more}
 use Rattle.member.proofs.fill.Goals as goal
-
-pub loop-k-init : goal.loop-k-init
-loop-k-init c = filling_start _ _ _ (omega (arith, c.requires)) c.empty_set.ensures
 
 pub loop-k-preserved : goal.loop-k-preserved
 unfolding item_set
@@ -23,12 +19,3 @@ loop-k-preserved c =
     let room : length c.args.items.now < length c.loop-k.sets = omega (arith, length-set c.args.sets.now 0 c.empty_set.result) in
     filling_more m c.loop-k.sets c.args.items.now c.loop-k.k c.item_set.result c.loop-k-test.true room c.loop-k.invariant
     (c.item_set.ensures ∙ ap₂ (λ a b. gather (length m.states) (takes m i.name a b)) inside following)
-
-pub returns : goal.returns
-returns c =
-    let all : c.loop-k.k ≡ length c.args.items.now = omega arith in
-    let m : Machine = seen c.args.setting.now in
-    record {
-      table = ap (λ n. take (n + 1) (bits_of c.loop-k.sets)) (sym all) ∙ c.loop-k.invariant
-          ∙ ap (state_sets m) (take_all c.loop-k.k c.args.items.now c.loop-k-test.false);
-    }
