@@ -1,5 +1,5 @@
 //! Reading a whole text into rows and items.
-ghost use Rattle.std.specs.Prelude.{◌≡◌, ◌≤◌, length, replicate, IfOk};
+ghost use Rattle.std.specs.Prelude.{◌≡◌, ◌≤◌, length, replicate, take, IfOk};
 ghost use Rattle.model.specs.Blank.{blank_row, blank_item};
 ghost use Rattle.records.specs.Places.{HasPlace};
 ghost use Rattle.records.specs.Reading.{row_placed, item_placed, finished, counted, Opening, opening_prop, itself, sheet_of, count_of, sheet_read, hedge_read, ReadInto, SheetSound, ItemsSound};
@@ -59,6 +59,13 @@ pub fn blank(rows: &mut [Row], items: &mut [Item])
 {
     rows.fill(Row::blank());
     items.fill(Item::blank());
+}
+
+/// The first of the records, at most so many.
+pub fn first<T>(records: &[T], count: usize) -> &[T]
+    ensures { result.now ≡ take count records.now }
+{
+    records.get(..count).unwrap_or(records)
 }
 
 /// Refuses counts of rows and items that a call may not be given.

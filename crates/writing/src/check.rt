@@ -6,7 +6,7 @@ use crate::page::Page;
 use crate::record::Record;
 use model::rows::Row;
 use records::fault::CallFault;
-use records::read::counts;
+use records::read::{counts, first};
 use records::sheet::{Bounds, Sheet, Verdict};
 use text::fault::{TableFault, ensure};
 
@@ -23,16 +23,13 @@ fn check_records<R: Record>(bounds: Bounds, count: usize, records: &[R]) -> Resu
     requires { length records.now ≤ 512 }
     ensures { result ≡ places_checked (R.fits_after bounds.entry.states bounds.entry.names.now) 0 count records.now }
 {
-    for i in 0..count {
-        let line = i + 3;
-        let Some(record) = records.get(i) else {
-            return Err(CallFault::Room { line });
-        };
+    for (i, record) in first(records, count).iter().enumerate() {
         if !record.fits(bounds, i) {
-            return Err(TableFault::Place { line }.into());
+            return Err(TableFault::Place { line: i + 3 }.into());
         }
     }
-    Ok(())
+    let room = records.len();
+    ensure(count <= room, CallFault::Room { line: room + 3 })
 }
 
 /// Refuses a pair with an absent rule.

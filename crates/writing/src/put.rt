@@ -8,6 +8,7 @@ use crate::page::Page;
 use crate::record::Record;
 use itoa::Buffer;
 use model::sets::StateSet;
+use records::read::first;
 use records::sheet::Verdict;
 
 /// A lent output with the next place. Where the output has no such place nothing is altered, so
@@ -92,7 +93,7 @@ impl Writer<'_> {
     fn records<R: Record>(&mut self, count: usize, records: &[R])
         ensures { Wrote self.old (all_texts R.text (take count records.now)) self.new }
     {
-        for record in &records[..count.min(records.len())] {
+        for record in first(records, count) {
             record.put(self);
         }
     }
