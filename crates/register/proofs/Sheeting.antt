@@ -5,6 +5,7 @@ use mathlib.Core.Logic.{∥∥₁_elim, ∥∥₁_map, ∥∥₁_prop}
 use mathlib.Core.HLevel.{×_prop, ¬_prop}
 use Rattle.std.proofs.lemmas.List.{take_all}
 use Rattle.std.proofs.lemmas.Bool.{cond-true, lt-ltb, false≢true}
+use Rattle.model.specs.declared.names.Name.{Name}
 use Rattle.model.specs.declared.rows.Row.{Row}
 use Rattle.model.specs.declared.rows.Item.{Item}
 use Rattle.model.specs.Blank.{blank_row, blank_item}
@@ -14,7 +15,7 @@ use Rattle.records.specs.declared.fault.CallFault.{CallFault}
 use Rattle.records.specs.declared.sheet.Sheet.{Sheet}
 use Rattle.model.specs.declared.verdict.Verdict.{Verdict}
 use Rattle.model.specs.declared.verdict.Verdict.TheVariants.{Included, Excluded}
-use Rattle.records.specs.Reading.{Found, sheet_read, sheet_of, answer, padded, rows_in, items_in}
+use Rattle.records.specs.Reading.{Found, ReadInto, sheet_read, sheet_of, answer, padded, rows_in, items_in}
 use Rattle.records_law.proofs.Rewritten.{is_written}
 use Rattle.judge.specs.declared.fault.SheetFault.{SheetFault}
 use Rattle.judge.specs.Judgement.{included_fault, excluded_fault, refusal}
@@ -128,6 +129,17 @@ accepted t m g settled all n k text f u rows items er ej es ei =
           ∙ ap (λ l. sheet_text (sheet_of f.at) rows l) (sym ei);
     })
 
+-- a sheet that was read within bounds that are the grammar's
+pub read_within : (t : Plain) (m : Machine) (rules states : ℕ) (names : List Name) (n k : ℕ) (text : List ℕ) (r : Result Sheet CallFault) (rows : List Row) (items : List Item) →
+    rules ≡ rules_of t → states ≡ length m.states → names ≡ t.names →
+    ReadInto sheet_of (sheet_read rules states names n k text) n k r rows items →
+    ReadInto sheet_of (sheet_read (rules_of t) (length m.states) t.names n k text) n k r rows items
+read_within t m rules states names n k text r rows items er es en is =
+    let P : Result Found CallFault → Type 0 = λ q. ReadInto sheet_of q n k r rows items in
+    subst P (ap (λ x. sheet_read x states names n k text) er
+    ∙ ap (λ x. sheet_read (rules_of t) x names n k text) es
+    ∙ ap (λ x. sheet_read (rules_of t) (length m.states) x n k text) en) is
+
 -- A sheet was read as s into rows and items, and judged: what it is, and its judgement as the definition has it.
 pub record Judging (t : Plain) (m : Machine) (settled : ℕ → ℕ → Settled) (n k : ℕ) (text : List ℕ) (s : Sheet) (j : Result (Unit {0}) SheetFault) (rows : List Row) (items : List Item) : Type 0 where
   pub f : Found
@@ -139,17 +151,15 @@ pub record Judging (t : Plain) (m : Machine) (settled : ℕ → ℕ → Settled)
 
 pub judging : (t : Plain) (m : Machine) (settled : ℕ → ℕ → Settled) (sets n k : ℕ) (text : List ℕ) (s : Sheet) (j : Result (Unit {0}) SheetFault) (rows : List Row) (items : List Item) →
     sets ≡ 513 →
-    Ok s ≡ answer sheet_of (sheet_read (rules_of t) (length m.states) t.names n k text) →
-    rows ≡ padded blank_row n (rows_in (sheet_read (rules_of t) (length m.states) t.names n k text)) →
-    items ≡ padded blank_item k (items_in (sheet_read (rules_of t) (length m.states) t.names n k text)) →
+    ReadInto sheet_of (sheet_read (rules_of t) (length m.states) t.names n k text) n k (Ok s) rows items →
     j ≡ sheet_judged m settled (rules_of t) sets s rows items →
     Judging t m settled n k text s j rows items
-judging t m settled sets n k text s j rows items es e er ei ej =
+judging t m settled sets n k text s j rows items es is ej =
     let R = sheet_read (rules_of t) (length m.states) t.names n k text in
-    let a = read_found R s e in
+    let a = read_found R s is.answered in
     let w = sheet_well (rules_of t) (length m.states) t.names n k text a.0 a.1 in
-    let er' : rows ≡ padded blank_row n a.0.rows = er ∙ ap (λ q. padded blank_row n (rows_in q)) a.1 in
-    let ei' : items ≡ padded blank_item k a.0.items = ei ∙ ap (λ q. padded blank_item k (items_in q)) a.1 in
+    let er' : rows ≡ padded blank_row n a.0.rows = is.rows_left ∙ ap (λ q. padded blank_row n (rows_in q)) a.1 in
+    let ei' : items ≡ padded blank_item k a.0.items = is.items_left ∙ ap (λ q. padded blank_item k (items_in q)) a.1 in
     record {
       f = a.0;
       is_read = a.1;

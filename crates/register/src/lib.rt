@@ -2,7 +2,7 @@
 //! look-ups and clearings.
 #![tactic(auto)]
 
-mod blank;
+pub mod basis;
 pub mod membership;
 mod new;
 mod pairs;
