@@ -28,7 +28,7 @@ use Rattle.tables.specs.Judge.{judged}
 use Rattle.tables.specs.Read.{headed, mentioned, entered, present, read_lines, blank, read, answers}
 use Rattle.tables_law.specs.Lawful.{Apart, Lawful}
 use Rattle.tables_law.specs.Source.{Named, Under, Ruled, Source, name_text, under_text, node_text, rule_text, end_text, sections, text_of, headless, spelling_of, rule_spelling, body_of, with_heads, GivenHeads, grown, tables_of, Writes, Gives, Accepts}
-use Rattle.text_law.proofs.Cases.{same_ok, no_ok}
+use Rattle.text_law.proofs.Cases.{same_ok}
 use Rattle.tables_law.proofs.Places.{may_parts}
 use Rattle.tables_law.proofs.Sound.{grown_name, grown_under, grown_node, grown_rule, grown_none, read_writes}
 use Rattle.tables_law.proofs.Given.{Small, begin_given, name_given, under_given, node_given, rule_given, end_given}
@@ -227,7 +227,7 @@ writes_read text t w =
 
 gives_by : (r : Result Tables ReadError) (t : Plain) → answers r (Ok t) → Gives r t
 gives_by (Ok u) t h = same_ok h
-gives_by (Err (Fault f)) t h = no_ok h
+gives_by (Err (Fault f)) t h = cc
 gives_by (Err Memory) t h = tt
 
 -- so a call answers

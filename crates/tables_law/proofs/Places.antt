@@ -16,7 +16,6 @@ use Rattle.tables.specs.Checks.{has, same_kind, no_name, kind_at, may_head, may_
 use Rattle.tables.specs.Read.{headed, present}
 use Rattle.tables_law.specs.Lawful.{Apart, Headed, Standing}
 use Rattle.std.proofs.lemmas.Option.{none-some, same_Some}
-use Rattle.text_law.proofs.Cases.{no_ok}
 
 -- an index of a longer list is an old one or the new one
 pub push_cases : {X : Type 0} (xs : List X) (x : X) (i : ℕ) → i < length (xs ++ x ∷ []) → (i < length xs) ⊎ (i ≡ length xs)
@@ -98,7 +97,7 @@ standing_more ns xs x a h i l =
 -- mentions that are present
 present_by : (n : ℕ) (m : Mention) (ms : List Mention) (u : Unit {0}) (b : Bool) → ltb m.rule n ≡ b → cond b (present n ms) (Err (Place m.line)) ≡ Ok u → (present n ms ≡ Ok u → AllByRecursion (λ (k : Mention). k.rule < n) ms) → (m.rule < n) × AllByRecursion (λ (k : Mention). k.rule < n) ms
 present_by n m ms u true e h g = (ltb-true _ _ e, g h)
-present_by n m ms u false e h g = absurd (no_ok h)
+present_by n m ms u false e h g = absurd cc
 
 pub present_all : (n : ℕ) (ms : List Mention) (u : Unit {0}) → present n ms ≡ Ok u → AllByRecursion (λ (m : Mention). m.rule < n) ms
 present_all n [] u h = tt

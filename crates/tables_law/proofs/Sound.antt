@@ -19,7 +19,7 @@ use Rattle.tables.specs.Plain.{Plain, Sketch, Fact, begin, name, under, node, ru
 use Rattle.tables.specs.Judge.{judged, keyed_line}
 use Rattle.tables.specs.Read.{headed, entered, present, closed, read_lines, blank, read}
 use Rattle.tables_law.specs.Source.{Named, Under, Ruled, Source, name_text, under_text, node_text, rule_text, end_text, sections, headless, spelling_of, rule_spelling, body_of, with_heads, GivenHeads, lines_from, grown, no_tables, tables_of, Writes}
-use Rattle.text_law.proofs.Cases.{same_ok, no_ok}
+use Rattle.text_law.proofs.Cases.{same_ok}
 use Rattle.tables_law.proofs.Chains.{then_ok, lifted, holds_ok}
 use Rattle.tables_law.proofs.Said.{key_said, begin_said, name_said, under_said, node_said, rule_said, end_said, judged_said}
 use Rattle.tables_law.proofs.Good.{read_lawful}
@@ -233,7 +233,7 @@ sound_first keys.Rule l fs f ls t w a h r = absurd (true≢false (sym a))
 sound_first keys.End l fs f ls t w a h r = absurd (true≢false (sym a))
 
 sound_all : (ls : List (List ℕ)) (t : Plain) → read_lines blank 0 ls ≡ Ok t → (s : Source) × (keyed (codes "grammar") (codes "1" ∷ []) ∷ sections 0 s.names s.unders s.nodes s.rules ≡ ls) × (tables_of s ≡ t) × GivenHeads (map headless s.names) s.unders
-sound_all [] t h = absurd (no_ok h)
+sound_all [] t h = absurd cc
 sound_all (l ∷ ls) t h =
     let s = then_ok (judged blank 1 l) _ t h in
     let j = judged_said blank 1 l s.0 s.1 in

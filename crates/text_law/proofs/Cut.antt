@@ -9,7 +9,7 @@ use Rattle.text.specs.Pieces.{before, after, onto, pieces, lines, fields, last_b
 use Rattle.text.specs.Fields.{View, key}
 use Rattle.text.specs.Cursors.{parts_at, line_parts}
 use Rattle.text_law.specs.Writing.{written, commas, keyed, lacks}
-use Rattle.text_law.proofs.Cases.{no_ok, same_ok}
+use Rattle.text_law.proofs.Cases.{same_ok}
 
 -- whatever a list of pieces is, one of them is first
 abbrev pub SomePiece : List (List ℕ) → Type 0
@@ -120,7 +120,7 @@ before_after m [] rest h = absurd (none-some _ h)
 before_after m (x ∷ xs) rest h = before_after_by m x xs rest (eqb x m) refl h (before_after m xs rest)
 
 parts_by : (n : ℕ) (bs : List ℕ) (v : View) (fs : List (List ℕ)) (o : Option (List ℕ)) → after 61 bs ≡ o → parts_at n (before 61 bs) o ≡ Ok (v, fs) → (v ≡ key n (before 61 bs)) × (bs ≡ keyed (before 61 bs) fs)
-parts_by n bs v fs None e h = absurd (no_ok h)
+parts_by n bs v fs None e h = absurd cc
 parts_by n bs v fs (Some r) e h =
     let s : (key n (before 61 bs), fields r) ≡ (v, fs) = same_ok h in
     (sym (ap (λ p. p.0) s), before_after 61 bs r e ∙ ap (λ l. before 61 bs ++ 61 ∷ l) (sym (commas_fields r) ∙ ap (λ p. commas p.1) s))
@@ -130,7 +130,7 @@ parts_said n bs v fs h = parts_by n bs v fs (after 61 bs) refl h
 
 -- a text that is read whole is not empty, within the limit, and ends in LF
 whole_by : (xs : List ℕ) (limit : ℕ) (f : LineFault) (b : Bool) (u : Unit {0}) → cond b (Err f) (Ok tt) ≡ Ok u → b ≡ false
-whole_by xs limit f true u h = absurd (no_ok h)
+whole_by xs limit f true u h = absurd cc
 whole_by xs limit f false u h = refl
 
 pub whole_said : (xs : List ℕ) (limit : ℕ) (u : Unit {0}) → whole_text limit xs ≡ Ok u → (0 < length xs) × (length xs ≤ limit) × (last_byte xs ≡ 10)
