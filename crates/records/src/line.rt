@@ -35,13 +35,10 @@ fn expect(field: Field, word: &[u8]) -> Result<(), LineFault>
 fn verdict(word: Field) -> Result<Verdict, LineFault>
     ensures { result ≡ verdict_in (view word.entry) }
 {
-    if word.is(b"included") {
-        Ok(Verdict::Included)
-    } else if word.is(b"excluded") {
-        Ok(Verdict::Excluded)
-    } else {
-        Err(LineFault::Form { line: word.line() })
-    }
+    word.one_of(&[
+        (b"included", Verdict::Included),
+        (b"excluded", Verdict::Excluded),
+    ])
 }
 
 /// The fault of a number that is not allowed at its place, in the line of this key.
