@@ -1,5 +1,7 @@
 -- What tables and states together give.
-use Rattle.std.proofs.Common.{◌≡◌, ℕ, List, Ok, Err, sym, refl, subst}
+use Rattle.std.proofs.Common.{◌≡◌, ℕ, List, Ok, Err, IsErrAnd, Result, sym, refl, subst}
+use Rattle.std.specs.Result.{MatchResult}
+use Rattle.std.proofs.lemmas.Result.{err_from_is_err_and}
 use Rattle.model.specs.declared.nodes.Node.{Node}
 use Rattle.model.specs.declared.machine.Machine.{Machine}
 use Rattle.model.specs.Machine.{states_of}
@@ -48,3 +50,19 @@ failed_from text t nodes bodies lines e told en eb el built =
     let Q : List ℕ → Type 0 = λ bs. Built nodes bs (Err e) in
     let R : List ℕ → Type 0 = λ ls. Loads text (Err (of_build e ls)) in
     subst R (sym el) (failed text t e told (subst P en (subst Q eb built)))
+
+-- what an error becomes by `map_err`
+
+pub mapped_ok : {T E F : Type 0} (r : Result T E) (out : Result T F) (m : T) (P : E → F → Type 0) →
+    MatchResult r (λ x. out ≡ Ok x) (λ e. IsErrAnd out (P e)) → out ≡ Ok m → r ≡ Ok m
+mapped_ok (Ok x) out m P c e = cc
+mapped_ok (Err x) out m P c e = let p = err_from_is_err_and out c in let q = p.1 in cc
+
+pub mapped_err : {T E F : Type 0} (r : Result T E) (out : Result T F) (y : F) (P : E → F → Type 0) →
+    MatchResult r (λ x. out ≡ Ok x) (λ e. IsErrAnd out (P e)) → out ≡ Err y → (e : E) × (r ≡ Err e) × P e y
+mapped_err (Ok x) out y P c e = absurd cc
+mapped_err (Err x) out y P c e =
+    let p = err_from_is_err_and out c in
+    let q = p.1 in
+    let same : p.0 ≡ y = cc in
+    (x, refl, subst (P x) same p.2)

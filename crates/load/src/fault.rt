@@ -1,8 +1,10 @@
 //! The faults of a grammar. A table's fault stands in it whole.
 ghost use Rattle.std.specs.Prelude.{◌≡◌};
+ghost use Rattle.load.specs.Errors.{of_read};
 ghost use Rattle.load.specs.Faults.{grammar_told};
 ghost use Rattle.load.specs.declared.fault.GrammarFault.TheVariants.{Table as in_table};
 
+use tables::fault::ReadError;
 use text::fault::{Fault, Layer, TableFault, Told};
 use thiserror::Error;
 
@@ -21,10 +23,24 @@ pub enum GrammarFault {
 }
 
 /// Why no grammar was loaded: a fault of the text, or want of memory.
-#[derive(Clone, Copy)]
+#[derive(Clone, Copy, Debug, PartialEq, Eq, Error)]
 pub enum LoadError {
+    #[error(transparent)]
     Fault(GrammarFault),
+    #[error("there is no memory for the grammar")]
     Memory,
+}
+
+/// A fault of the tables is contained whole.
+impl From<ReadError> for LoadError {
+    ghost from_gives = { λ e t. t ≡ of_read e };
+
+    fn from(error: ReadError) -> LoadError {
+        match error {
+            ReadError::Fault(fault) => LoadError::Fault(fault.into()),
+            ReadError::Memory => LoadError::Memory,
+        }
+    }
 }
 
 impl Fault for GrammarFault {
