@@ -1,6 +1,6 @@
 -- The work on derivatives as it goes on.
 use Rattle.std.proofs.Common.{◌≡◌, ℕ, ◌+◌, ◌*◌, ◌<◌, ◌≤◌, Bool, true, false, cond, List, [], ◌∷◌, ◌++◌, map, length, get_or, drop, set, Some, None, vec_items, sym, refl, ap, ◌∙◌, subst, ap₂, append_assoc, append-nil, arith}
-use Rattle.std.proofs.lemmas.List.{length-append, drop_at, map-append, get_or_default}
+use Rattle.std.proofs.lemmas.List.{length-append, drop_at, map-append}
 use Rattle.std.proofs.lemmas.Bool.{cond-true, cond-false, lt-ltb}
 use Rattle.model.specs.declared.nodes.Node.{Node}
 use Rattle.model.specs.declared.nodes.Node.TheVariants.{Nothing, Simple, Rule, Element, Union, Seq, Star}
@@ -11,7 +11,7 @@ use Rattle.meaning.specs.Functions.{Derived, once, same_derived}
 use Rattle.meaning.specs.Functions as functions
 use Rattle.expressions.specs.Numbers.{earlier, body_at, tree, null_at}
 use Rattle.expressions.specs.Records.{same_derivative}
-use Rattle.expressions.specs.Fine.{PartsBelow, Founded, Fine, Grows}
+use Rattle.expressions.specs.Fine.{Fine, Grows}
 use Rattle.expressions.specs.Derived.{part, as_trees, AllIn, ders_at, ders_node}
 use Rattle.expressions.proofs.Fine.{grows_same, grows_on, grows_tree, grows_long}
 use Rattle.expressions.proofs.Ders.{part_none, part_old, part_new, all_none, all_one, all_part, all_append, all_entered, all_grows, trees_grow, entered_trees, ders_step, ders_past, ders_grow, nulls_grow}
@@ -22,6 +22,7 @@ use Rattle.states.specs.declared.nullable.Expressions.{Expressions}
 use Rattle.states.specs.Memo.{notes}
 use Rattle.states.specs.Spans.{Inside, told, Longer, Finds, Spans}
 use Rattle.states.specs.Derive.{nodes_of, bodies_of, found_of, Goes, Gives, Went, both, in_turn, JoinedTo}
+use Rattle.states.proofs.Nullables.{parts_at, here}
 use Rattle.states.proofs.Memos.{notes_all, notes_at, notes_set}
 
 -- lists that were added to
@@ -187,16 +188,6 @@ turn_told old w first then s v list g inside j e =
 
 -- the cases of a node
 
-pub node_at : (w : Work) (i : ℕ) (x n : Node) → i < length (nodes_of w) → x ≡ get_or (nodes_of w) i x → x ≡ n → get_or (nodes_of w) i Nothing ≡ n
-node_at w i x n lt e is = get_or_default (nodes_of w) i Nothing x lt ∙ sym e ∙ is
-
-part_here : (i c : ℕ) → c < i → earlier i c ≡ c
-part_here i c lt = cond-true _ _ _ (lt-ltb c i lt)
-
-pub parts_of : (w : Work) (i : ℕ) (n : Node) → i < length (nodes_of w) → get_or (nodes_of w) i Nothing ≡ n → PartsBelow i n
-unfolding Founded
-parts_of w i n lt is = subst (PartsBelow i) is (w.expressions.fine.1 i lt)
-
 step : (w : Work) (r i : ℕ) (n : Node) → i < length (nodes_of w) → get_or (nodes_of w) i Nothing ≡ n →
     ders_at (nodes_of w) (bodies_of w) r i ≡ ders_node (nodes_of w) (bodies_of w) r i n
 step w r i n lt is = ders_step (nodes_of w) (bodies_of w) r i lt w.expressions.fine.0 ∙ ap (ders_node (nodes_of w) (bodies_of w) r i) is
@@ -238,7 +229,7 @@ pub went_element : (w new : Work) (r i b c : ℕ) (s : Span) → i < length (nod
     Gives w new (map (as_trees (nodes_of w)) ((b, c, w.expressions.rules.empty) ∷ [])) s → Went w new r i s
 went_element w new r i b c s lt is =
     went_leaf w new r i b c s (Element b c) lt is
-    (ap (λ m. (b, tree (nodes_of w) m, empty) ∷ []) (part_here i c (parts_of w i (Element b c) lt is)))
+    (ap (λ m. (b, tree (nodes_of w) m, empty) ∷ []) (sym (here i c (parts_at w.expressions i (Element b c) lt is))))
 
 -- a single derivative of numbers in the book
 pub leaf_in : (w : Work) (label content : ℕ) → content < length (nodes_of w) →
@@ -251,16 +242,15 @@ went_rule w new r i k m s lt is less at =
     gives_as w new _ _ s
     (ap (ders_at (nodes_of w) (bodies_of w) k) at ∙ sym (step w r i (Rule k) lt is ∙ cond-true _ _ _ (lt-ltb k r less)))
 
-pub went_union : (w a b c : Work) (r i m o n k : ℕ) (x y s : Span) → i < length (nodes_of w) → get_or (nodes_of w) i Nothing ≡ Union n k →
-    m ≡ earlier i n → o ≡ earlier i k → Went w a r m x → Went a b r o y → Gives b c (both b x y) s → Went w c r i s
-went_union w a b c r i m o n k x y s lt is at_m at_o p q u =
-    let below = parts_of w i (Union n k) lt is in
+pub went_union : (w a b c : Work) (r i n k : ℕ) (x y s : Span) → i < length (nodes_of w) → get_or (nodes_of w) i Nothing ≡ Union n k →
+    Went w a r n x → Went a b r k y → Gives b c (both b x y) s → Went w c r i s
+went_union w a b c r i n k x y s lt is p q u =
+    let below = parts_at w.expressions i (Union n k) lt is in
     let kb = below.1 in
-    let ok : o ≡ k = at_o ∙ part_here i k below.1 in
     gives_as w c _ _ s
     (ap₂ (λ u v. once (u ++ v))
-    (told_goes a b x q.goes p.inside ∙ p.value ∙ ap (ders_at (nodes_of w) (bodies_of w) r) at_m)
-    (q.value ∙ ders_goes w a r o p.goes (omega arith) ∙ ap (ders_at (nodes_of w) (bodies_of w) r) at_o)
+    (told_goes a b x q.goes p.inside ∙ p.value ∙ ap (ders_at (nodes_of w) (bodies_of w) r) (here i n below.0))
+    (q.value ∙ ders_goes w a r k p.goes (omega arith) ∙ ap (ders_at (nodes_of w) (bodies_of w) r) (here i k below.1))
     ∙ sym (step w r i (Union n k) lt is))
     (gives_on w b c (both b x y) s (goes_on w a b p.goes q.goes) u)
 
@@ -283,15 +273,14 @@ pub record Then (w a b : Work) (r i n : ℕ) (t : Bool) (s : Span) : Type 0 wher
   pub inside : Inside (found_of b) s
   pub value : told (nodes_of b) (found_of b) s ≡ cond t (ders_at (nodes_of w) (bodies_of w) r (earlier i n)) []
 
-pub then_some : (w a mid new v : Work) (r i n m : ℕ) (t : Bool) (s u : Span) → v ≡ new → s ≡ u → t ≡ true → m ≡ earlier i n →
-    n < i → i < length (nodes_of w) → Goes w a → Goes a mid → Went mid new r m u → Then w a v r i n t s
-then_some w a mid new v r i n m t s u p q is at below lt first on went =
-    let here : m ≡ n = at ∙ part_here i n below in
+pub then_some : (w a mid new v : Work) (r i n : ℕ) (t : Bool) (s u : Span) → v ≡ new → s ≡ u → t ≡ true →
+    n < i → i < length (nodes_of w) → Goes w a → Goes a mid → Went mid new r n u → Then w a v r i n t s
+then_some w a mid new v r i n t s u p q is below lt first on went =
     subst (λ x. Then w a x r i n t s) (sym p) (subst (λ x. Then w a new r i n t x) (sym q) (record {
       goes = goes_on a mid new on went.goes;
       inside = went.inside;
-      value = went.value ∙ ders_goes w mid r m (goes_on w a mid first on) (omega arith)
-          ∙ ap (ders_at (nodes_of w) (bodies_of w) r) at ∙ sym (cond-true _ _ _ is);
+      value = went.value ∙ ders_goes w mid r n (goes_on w a mid first on) (omega arith)
+          ∙ ap (ders_at (nodes_of w) (bodies_of w) r) (here i n below) ∙ sym (cond-true _ _ _ is);
     }))
 
 pub then_none : (w a mid v : Work) (r i n : ℕ) (t : Bool) (s u : Span) → v ≡ mid → s ≡ u → t ≡ false →
@@ -300,26 +289,27 @@ then_none w a mid v r i n t s u p q is on at =
     subst (λ x. Then w a x r i n t s) (sym p) (subst (λ x. Then w a mid r i n t x) (sym q)
     (record { goes = on; inside = inside_none mid u at; value = told_none mid u at ∙ sym (cond-false _ _ _ is) }))
 
-pub went_seq : (w a b c : Work) (r i m n k : ℕ) (t : Bool) (x y s : Span) → i < length (nodes_of w) → get_or (nodes_of w) i Nothing ≡ Seq n k →
-    m ≡ earlier i n → Went w a r m x → t ≡ null_at (nodes_of a) (bodies_of a) (length (bodies_of a)) m → Then w a b r i k t y →
+pub went_seq : (w a b c : Work) (r i n k : ℕ) (t : Bool) (x y s : Span) → i < length (nodes_of w) → get_or (nodes_of w) i Nothing ≡ Seq n k →
+    Went w a r n x → t ≡ null_at (nodes_of a) (bodies_of a) (length (bodies_of a)) n → Then w a b r i k t y →
     Gives b c (in_turn b x k y) s → Went w c r i s
-went_seq w a b c r i m n k t x y s lt is at p null then =
-    let below = parts_of w i (Seq n k) lt is in
+went_seq w a b c r i n k t x y s lt is p null then =
+    let below = parts_at w.expressions i (Seq n k) lt is in
     let nb = below.0 in
     let kb = below.1 in
-    let here : m ≡ n = at ∙ part_here i n below.0 in
-    let own : t ≡ null_at (nodes_of w) (bodies_of w) (length (bodies_of w)) m = null ∙ null_goes w a m p.goes (omega arith) in
-    went_first w a b c r i m k (Seq n k) x y s _ lt is (omega arith) p then.goes then.value
+    let own : t ≡ null_at (nodes_of w) (bodies_of w) (length (bodies_of w)) n = null ∙ null_goes w a n p.goes (omega arith) in
+    went_first w a b c r i n k (Seq n k) x y s _ lt is (omega arith) p then.goes then.value
     (ap₂ (λ x y. once (map (functions.joined (tree (nodes_of w) x)) (ders_at (nodes_of w) (bodies_of w) r y) ++
-    cond (null_at (nodes_of w) (bodies_of w) (length (bodies_of w)) y) (ders_at (nodes_of w) (bodies_of w) r (earlier i k)) [])) (part_here i k below.1) (sym at)
-    ∙ ap (λ x. once (map (functions.joined (tree (nodes_of w) k)) (ders_at (nodes_of w) (bodies_of w) r m) ++ cond x (ders_at (nodes_of w) (bodies_of w) r (earlier i k)) [])) (sym own))
+    cond (null_at (nodes_of w) (bodies_of w) (length (bodies_of w)) y) (ders_at (nodes_of w) (bodies_of w) r (earlier i k)) []))
+    (sym (here i k below.1)) (sym (here i n below.0))
+    ∙ ap (λ x. once (map (functions.joined (tree (nodes_of w) k)) (ders_at (nodes_of w) (bodies_of w) r n) ++ cond x (ders_at (nodes_of w) (bodies_of w) r (earlier i k)) [])) (sym own))
 
-pub went_star : (w a c : Work) (r i m n : ℕ) (x y s : Span) → i < length (nodes_of w) → get_or (nodes_of w) i Nothing ≡ Star n →
-    m ≡ earlier i n → Went w a r m x → (y.from ≡ 0) × (y.to ≡ 0) → Gives a c (in_turn a x i y) s → Went w c r i s
-went_star w a c r i m n x y s lt is at p none_at =
-    went_first w a a c r i m i (Star n) x y s [] lt is lt p (goes_same a) (told_none a y none_at)
-    (ap (λ y. once (map (functions.joined (tree (nodes_of w) i)) (ders_at (nodes_of w) (bodies_of w) r y))) (sym at)
-    ∙ ap once (sym (append-nil (map (functions.joined (tree (nodes_of w) i)) (ders_at (nodes_of w) (bodies_of w) r m)))))
+pub went_star : (w a c : Work) (r i n : ℕ) (x y s : Span) → i < length (nodes_of w) → get_or (nodes_of w) i Nothing ≡ Star n →
+    Went w a r n x → (y.from ≡ 0) × (y.to ≡ 0) → Gives a c (in_turn a x i y) s → Went w c r i s
+went_star w a c r i n x y s lt is p none_at =
+    went_first w a a c r i n i (Star n) x y s [] lt is lt p (goes_same a) (told_none a y none_at)
+    (ap (λ y. once (map (functions.joined (tree (nodes_of w) i)) (ders_at (nodes_of w) (bodies_of w) r y)))
+    (sym (here i n (parts_at w.expressions i (Star n) lt is)))
+    ∙ ap once (sym (append-nil (map (functions.joined (tree (nodes_of w) i)) (ders_at (nodes_of w) (bodies_of w) r n)))))
 
 -- the work and the span that a case leaves
 pub into : (w v v' : Work) (r i : ℕ) (s s' : Span) → v ≡ v' → s ≡ s' → Went w v' r i s' → Went w v r i s

@@ -3,7 +3,9 @@ use Rattle.std.proofs.Common.{◌≡◌, ℕ, ◌+◌, ◌*◌, ◌<◌, Bool, t
 use Rattle.std.proofs.lemmas.List.{get_or_default}
 use Rattle.model.specs.declared.nodes.Node.{Node}
 use Rattle.model.specs.declared.nodes.Node.TheVariants.{Nothing}
-use Rattle.expressions.specs.Numbers.{null_at, null_node}
+use Rattle.expressions.specs.Numbers.{null_at, null_node, earlier}
+use Rattle.std.proofs.lemmas.Bool.{cond-true, lt-ltb}
+use Rattle.expressions.specs.Fine.{PartsBelow, Founded}
 use Rattle.expressions.proofs.Nulls.{null_step}
 use Rattle.states.specs.Memo.{notes, Says, Sound}
 use Rattle.states.proofs.Memos.{notes_set}
@@ -36,12 +38,25 @@ pub record Told (old new : Expressions) (r i : ℕ) (b : Bool) : Type 0 where
   pub rules : new.rules ≡ old.rules
   pub value : b ≡ null_in old r i
 
+-- the node at a number
+pub read_at : (e : Expressions) (i : ℕ) (x n : Node) → i < length (vec_items e.nodes) → x ≡ get_or (vec_items e.nodes) i x → x ≡ n →
+    get_or (vec_items e.nodes) i Nothing ≡ n
+read_at e i x n lt at is = get_or_default (vec_items e.nodes) i Nothing x lt ∙ sym at ∙ is
+
+-- its parts are earlier
+pub parts_at : (e : Expressions) (i : ℕ) (n : Node) → i < length (vec_items e.nodes) → get_or (vec_items e.nodes) i Nothing ≡ n → PartsBelow i n
+unfolding Founded
+parts_at e i n lt is = subst (PartsBelow i) is (e.fine.1 i lt)
+
+pub here : (i c : ℕ) → c < i → c ≡ earlier i c
+here i c lt = sym (cond-true _ _ _ (lt-ltb c i lt))
+
 -- by what the node is
 pub by_node : (old v v' : Expressions) (r i : ℕ) (b b' : Bool) (x n : Node) → v ≡ v' → b ≡ b' → v'.nodes ≡ old.nodes → v'.rules ≡ old.rules →
     i < length (vec_items old.nodes) → x ≡ get_or (vec_items old.nodes) i x → x ≡ n →
     b' ≡ null_node (vec_items old.nodes) (vec_items old.rules.bodies) r i n → Told old v r i b
 by_node old v v' r i b b' x n p q nodes rules lt at is e =
-    let read : get_or (vec_items old.nodes) i Nothing ≡ n = get_or_default (vec_items old.nodes) i Nothing x lt ∙ sym at ∙ is in
+    let read = read_at old i x n lt at is in
     record {
       nodes = ap (λ (w : Expressions). w.nodes) p ∙ nodes;
       rules = ap (λ (w : Expressions). w.rules) p ∙ rules;
@@ -49,10 +64,10 @@ by_node old v v' r i b b' x n p q nodes rules lt at is e =
           ∙ ap (null_node (vec_items old.nodes) (vec_items old.rules.bodies) r i) read);
     }
 
--- nullability of a part by the number that was computed for it
-pub at_part : (old new : Expressions) (r m m' : ℕ) (b : Bool) → new.nodes ≡ old.nodes → new.rules ≡ old.rules →
-    b ≡ null_in new r m → m ≡ m' → b ≡ null_in old r m'
-at_part old new r m m' b p q e is = e ∙ same_null old new r m p q ∙ ap (null_in old r) is
+-- nullability of an earlier part
+pub at_part : (old new : Expressions) (r i m : ℕ) (b : Bool) → new.nodes ≡ old.nodes → new.rules ≡ old.rules →
+    b ≡ null_in new r m → m < i → b ≡ null_in old r (earlier i m)
+at_part old new r i m b p q e lt = e ∙ same_null old new r m p q ∙ ap (null_in old r) (here i m lt)
 
 -- the notes with the answer
 pub told_noted : (old new : Expressions) (r i : ℕ) (b : Bool) → i < length (vec_items old.nodes) → Told old new r i b →

@@ -7,7 +7,6 @@ ghost use Rattle.states.specs.Spans.{Spans, Spans-prop};
 
 use crate::entering::once;
 use crate::error::Limit;
-use crate::grammar::earlier_of;
 use crate::memo::Memo;
 use crate::nullable::Expressions;
 use model::machine::Derivative;
@@ -150,21 +149,21 @@ impl Work {
                 }
             }
             Node::Union(a, b) => {
-                let left = self.derive(heap, rule, earlier_of(node, a))?;
-                let right = self.derive(heap, rule, earlier_of(node, b))?;
+                let left = self.derive(heap, rule, a)?;
+                let right = self.derive(heap, rule, b)?;
                 self.of_union(heap, left, right)?
             }
             Node::Seq(a, b) => {
-                let first = self.derive(heap, rule, earlier_of(node, a))?;
-                let then = if self.nullable(earlier_of(node, a)) {
-                    self.derive(heap, rule, earlier_of(node, b))?
+                let first = self.derive(heap, rule, a)?;
+                let then = if self.nullable(a) {
+                    self.derive(heap, rule, b)?
                 } else {
                     Span::default()
                 };
                 self.of_first(heap, first, b, then)?
             }
             Node::Star(a) => {
-                let first = self.derive(heap, rule, earlier_of(node, a))?;
+                let first = self.derive(heap, rule, a)?;
                 self.of_first(heap, first, node, Span::default())?
             }
         };

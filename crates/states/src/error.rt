@@ -5,19 +5,25 @@ ghost use Rattle.states.specs.declared.error.Limit.TheVariants.{NoMemory as OutO
 ghost use Rattle.states.specs.Fault.{fault_of, memory_fault};
 
 use std::alloc::{AllocError, AllocFailed};
+use thiserror::Error;
 
 // There are too many expressions, states or derivatives; or there is no memory.
-#[derive(Clone, Copy)]
+#[derive(Clone, Copy, Debug, PartialEq, Eq, Error)]
 pub enum Limit {
+    #[error("there are over 512 expressions, 128 states or 512 derivatives")]
     TooLarge,
+    #[error("there is no memory for the states")]
     NoMemory,
 }
 
 // A rule mentions itself or a later rule in a way that is not lawful; or a limit was met.
-#[derive(Clone, Copy)]
+#[derive(Clone, Copy, Debug, PartialEq, Eq, Error)]
 pub enum BuildError {
+    #[error("rule {0} mentions itself or a later rule where recursion is not lawful")]
     Recursion(usize),
+    #[error("there are over 512 expressions, 128 states or 512 derivatives")]
     TooLarge,
+    #[error("there is no memory for the states")]
     NoMemory,
 }
 

@@ -4,7 +4,7 @@ ghost use Rattle.theory.specs.Language.{none};
 ghost use Rattle.theory.specs.Tree.{trees, of_node};
 ghost use Rattle.expressions.specs.Fine.{Fine, Below, Grows, shown};
 ghost use Rattle.states.specs.Read.{Numbered, Moved, StandFor, mentions, Read};
-ghost use Rattle.expressions.specs.Numbers.{earlier, body_at};
+ghost use Rattle.expressions.specs.Numbers.{body_at};
 
 use crate::entering::enter;
 use crate::error::Limit;
@@ -28,13 +28,6 @@ pub struct Grammar {
     pub nodes: Vec<Node>,
     pub rules: Rules,
     pub mentions: Vec<usize>,
-}
-
-// The number c if it is earlier than the node, else none: a node is built of earlier ones alone.
-pub fn earlier_of(node: usize, c: usize) -> usize
-    ensures { result ≡ earlier node c }
-{
-    if c < node { c } else { EXPRESSIONS }
 }
 
 impl Rules {
@@ -75,10 +68,7 @@ fn moved(nodes: &mut Vec<Node>, places: &[usize], node: Node) -> Result<Node, Li
             let left = placed(nodes, places, a)?;
             Ok(Node::Seq(left, placed(nodes, places, b)?))
         }
-        Node::Nothing => Ok(Node::Nothing),
-        Node::Empty => Ok(Node::Empty),
-        Node::Simple(n) => Ok(Node::Simple(n)),
-        Node::Rule(k) => Ok(Node::Rule(k)),
+        Node::Nothing | Node::Empty | Node::Simple(_) | Node::Rule(_) => Ok(node),
     }
 }
 

@@ -5,7 +5,7 @@ ghost use Rattle.expressions.specs.Props.{Fine-prop, Below-prop};
 ghost use Rattle.states.specs.Blank.{IsEmpty, IsEmpty-prop};
 ghost use Rattle.states.specs.Memo.{notes, Sound, Sound-prop};
 
-use crate::grammar::{Rules, earlier_of};
+use crate::grammar::Rules;
 use crate::memo::Memo;
 use model::nodes::Node;
 use std::alloc::{AllocError, Global};
@@ -62,13 +62,13 @@ impl Expressions {
                 k < rule && self.nullable(k, body)
             }
             Node::Union(a, b) => {
-                let left = self.nullable(rule, earlier_of(node, a));
-                let right = self.nullable(rule, earlier_of(node, b));
+                let left = self.nullable(rule, a);
+                let right = self.nullable(rule, b);
                 left || right
             }
             Node::Seq(a, b) => {
-                let left = self.nullable(rule, earlier_of(node, a));
-                let right = self.nullable(rule, earlier_of(node, b));
+                let left = self.nullable(rule, a);
+                let right = self.nullable(rule, b);
                 left && right
             }
         };

@@ -1,6 +1,5 @@
 // Lawful recursion: outside elements, a rule mentions earlier rules, and itself in last place.
 use crate::error::Limit;
-use crate::grammar::earlier_of;
 use crate::nullable::Expressions;
 use model::nodes::Node;
 use std::alloc::Global;
@@ -90,7 +89,7 @@ impl Expressions {
             },
             Node::Union(a, b) => Ways::at(table, a).or(Ways::at(table, b)),
             Node::Seq(a, b) => {
-                let left_nullable = self.nullable(k, earlier_of(table.len(), a));
+                let left_nullable = self.nullable(k, a);
                 Ways::at(table, a).then(Ways::at(table, b), left_nullable)
             }
             Node::Star(a) => Ways::at(table, a).bend(),

@@ -1,6 +1,10 @@
-use Rattle.std.proofs.Common.{vec_items, refl}
+use Rattle.std.proofs.Common.{◌≡◌, length, vec_items, sym, refl, subst, ⊎_elim}
+use Rattle.model.specs.declared.nodes.Node.{Node}
+use Rattle.theory.specs.Tree.{of_node}
+use Rattle.expressions.specs.Numbers.{tree}
+use Rattle.states.specs.Read.{Moved}
 use Rattle.model.specs.declared.nodes.Node.TheVariants.{Nothing, Empty, Simple, Rule, Union, Seq}
-use Rattle.expressions.specs.Fine.{shown}
+use Rattle.expressions.specs.Fine.{shown, PartsBelow, make}
 use Rattle.expressions.proofs.Fine.{grows_same}
 use Rattle.states.proofs.Reading.{as_node, moved_union, moved_seq, below_then}
 use Rattle.states.proofs.grammar.moved.Goals as goal
@@ -43,24 +47,11 @@ returns-in_ok-placed-in-Seq c =
 
 pub returns-in-Nothing : goal.returns-in-Nothing
 returns-in-Nothing c =
-    as_node (vec_items c.args.nodes.now) (vec_items c.args.nodes.now) (Nothing) c.args.node (Nothing)
-    (shown (vec_items c.args.nodes.now) c.args.places.now) c.in-Nothing.is
-    (c.requires.fine, grows_same (vec_items c.args.nodes.now), tt, refl)
-
-pub returns-in-Empty : goal.returns-in-Empty
-returns-in-Empty c =
-    as_node (vec_items c.args.nodes.now) (vec_items c.args.nodes.now) (Empty) c.args.node (Empty)
-    (shown (vec_items c.args.nodes.now) c.args.places.now) c.in-Empty.is
-    (c.requires.fine, grows_same (vec_items c.args.nodes.now), tt, refl)
-
-pub returns-in-Simple : goal.returns-in-Simple
-returns-in-Simple c =
-    as_node (vec_items c.args.nodes.now) (vec_items c.args.nodes.now) (Simple c.in-Simple.n) c.args.node (Simple c.in-Simple.n)
-    (shown (vec_items c.args.nodes.now) c.args.places.now) c.in-Simple.is
-    (c.requires.fine, grows_same (vec_items c.args.nodes.now), tt, refl)
-
-pub returns-in-Rule : goal.returns-in-Rule
-returns-in-Rule c =
-    as_node (vec_items c.args.nodes.now) (vec_items c.args.nodes.now) (Rule c.in-Rule.k) c.args.node (Rule c.in-Rule.k)
-    (shown (vec_items c.args.nodes.now) c.args.places.now) c.in-Rule.is
-    (c.requires.fine, grows_same (vec_items c.args.nodes.now), tt, refl)
+    let nodes = vec_items c.args.nodes.now in
+    let es = shown (vec_items c.args.nodes.now) c.args.places.now in
+    let fine = c.requires.fine in
+    let leaf : (n : Node) → c.args.node ≡ n → PartsBelow (length (vec_items c.args.nodes.now)) n → make (tree nodes) n ≡ of_node es n →
+    Moved nodes nodes c.args.node (of_node es c.args.node) =
+    λ n e p m. subst (λ x. Moved nodes nodes x (of_node es x)) (sym e) (fine, grows_same nodes, p, m) in
+    ⊎_elim (λ e. leaf Nothing e tt refl) (⊎_elim (λ e. leaf Empty e tt refl)
+    (⊎_elim (λ e. leaf (Simple e.0) e.1 tt refl) (λ e. leaf (Rule e.0) e.1 tt refl))) c.in-Nothing.is

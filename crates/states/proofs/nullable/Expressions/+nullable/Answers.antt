@@ -1,14 +1,15 @@
-use Rattle.std.proofs.Common.{◌≡◌, ◌<◌, ◌≤◌, Bool, true, false, ltb, length, vec_items, sym, refl, ◌∙◌, subst, ⊎_elim, arith}
+use Rattle.std.proofs.Common.{◌≡◌, ◌<◌, ◌≤◌, Bool, true, false, ltb, length, vec_items, sym, refl, ap, ◌∙◌, subst, ⊎_elim, arith}
 use Rattle.std.proofs.lemmas.Bool.{cond-true, cond-false, lt-ltb, le-ltb}
 use Rattle.model.specs.declared.nodes.Node.{Node}
 use Rattle.model.specs.declared.nodes.Node.TheVariants.{Nothing, Empty, Simple, Rule, Element, Union, Seq, Star}
-use Rattle.expressions.specs.Numbers.{null_node, earlier, body_at}
+use Rattle.expressions.specs.Numbers.{null_node, earlier}
+use Rattle.expressions.specs.Fine.{PartsBelow}
 use Rattle.expressions.proofs.Ranks.{part_falls, rule_falls}
 use Rattle.expressions.proofs.Nulls.{null_past}
 use Rattle.states.specs.declared.nullable.Expressions.{Expressions}
 use Rattle.states.specs.Memo.{notes, Says, Sound}
 use Rattle.states.proofs.Memos.{notes_at}
-use Rattle.states.proofs.Nullables.{null_in, Told, by_node, at_part, told_noted, or_then, or_else, and_then, and_else}
+use Rattle.states.proofs.Nullables.{null_in, Told, by_node, read_at, parts_at, here, at_part, told_noted, or_then, or_else, and_then, and_else}
 use Rattle.states.proofs.nullable.Expressions.+nullable.Goals as goal
 use Rattle.states.proofs.nullable.Expressions.+nullable.Goals.{in-Nothing, in-Empty, in-Rule+then-k-rule, in-Rule+else-k-rule, in-Union+then-left, in-Union+else-left, in-Seq+then-left-2, in-Seq+else-left-2}
 
@@ -29,31 +30,39 @@ returns-in-Some-clause-value t c =
 
 pub nullable-left-requires : goal.nullable-left-requires
 nullable-left-requires t c =
+    let old = c.args.self.now in
     let ok = c.args.self.now.nodes.ok.0 in
     let few = c.args.self.now.fine.0 in
-    let small : c.args.node < 512 = omega arith in
-    (part_falls t c.args.rule c.args.node c.in-Union.a c.earlier_of.result c.decreases small c.earlier_of.ensures, tt)
+    let lt : c.args.node < length (vec_items c.args.self.now.nodes) = omega arith in
+    let below = parts_at old c.args.node (Union c.in-Union.a c.in-Union.b) lt (read_at old c.args.node c.index.result.now (Union c.in-Union.a c.in-Union.b) lt c.index.ensures c.in-Union.is) in
+    (part_falls t c.args.rule c.args.node c.in-Union.a c.in-Union.a c.decreases (omega arith) (here c.args.node c.in-Union.a below.0), tt)
 
 pub nullable-right-requires : goal.nullable-right-requires
 nullable-right-requires t c =
+    let old = c.args.self.now in
     let ok = c.args.self.now.nodes.ok.0 in
     let few = c.args.self.now.fine.0 in
-    let small : c.args.node < 512 = omega arith in
-    (part_falls t c.args.rule c.args.node c.in-Union.b c.earlier_of-in-Union.result c.decreases small c.earlier_of-in-Union.ensures, tt)
+    let lt : c.args.node < length (vec_items c.args.self.now.nodes) = omega arith in
+    let below = parts_at old c.args.node (Union c.in-Union.a c.in-Union.b) lt (read_at old c.args.node c.index.result.now (Union c.in-Union.a c.in-Union.b) lt c.index.ensures c.in-Union.is) in
+    (part_falls t c.args.rule c.args.node c.in-Union.b c.in-Union.b c.decreases (omega arith) (here c.args.node c.in-Union.b below.1), tt)
 
 pub nullable-left-requires-in-Seq : goal.nullable-left-requires-in-Seq
 nullable-left-requires-in-Seq t c =
+    let old = c.args.self.now in
     let ok = c.args.self.now.nodes.ok.0 in
     let few = c.args.self.now.fine.0 in
-    let small : c.args.node < 512 = omega arith in
-    (part_falls t c.args.rule c.args.node c.in-Seq.a c.earlier_of-in-Seq.result c.decreases small c.earlier_of-in-Seq.ensures, tt)
+    let lt : c.args.node < length (vec_items c.args.self.now.nodes) = omega arith in
+    let below = parts_at old c.args.node (Seq c.in-Seq.a c.in-Seq.b) lt (read_at old c.args.node c.index.result.now (Seq c.in-Seq.a c.in-Seq.b) lt c.index.ensures c.in-Seq.is) in
+    (part_falls t c.args.rule c.args.node c.in-Seq.a c.in-Seq.a c.decreases (omega arith) (here c.args.node c.in-Seq.a below.0), tt)
 
 pub nullable-right-requires-in-Seq : goal.nullable-right-requires-in-Seq
 nullable-right-requires-in-Seq t c =
+    let old = c.args.self.now in
     let ok = c.args.self.now.nodes.ok.0 in
     let few = c.args.self.now.fine.0 in
-    let small : c.args.node < 512 = omega arith in
-    (part_falls t c.args.rule c.args.node c.in-Seq.b c.earlier_of-in-Seq-2.result c.decreases small c.earlier_of-in-Seq-2.ensures, tt)
+    let lt : c.args.node < length (vec_items c.args.self.now.nodes) = omega arith in
+    let below = parts_at old c.args.node (Seq c.in-Seq.a c.in-Seq.b) lt (read_at old c.args.node c.index.result.now (Seq c.in-Seq.a c.in-Seq.b) lt c.index.ensures c.in-Seq.is) in
+    (part_falls t c.args.rule c.args.node c.in-Seq.b c.in-Seq.b c.decreases (omega arith) (here c.args.node c.in-Seq.b below.1), tt)
 
 pub nullable-requires : goal.nullable-requires
 nullable-requires t c =
@@ -71,6 +80,8 @@ invariant_of-self t c =
     b' ≡ null_node (vec_items old.nodes) (vec_items old.rules.bodies) r i n → Told old c.match-index.self r i c.match-index.answer =
     λ v' b' n p q nodes rules is e.
     by_node old c.match-index.self v' r i c.match-index.answer b' c.index.result.now n p q nodes rules lt c.index.ensures is e in
+    let below : (n : Node) → c.index.result.now ≡ n → PartsBelow i n =
+    λ n is. parts_at old i n lt (read_at old i c.index.result.now n lt c.index.ensures is) in
     let told : Told old c.match-index.self r i c.match-index.answer =
     elim c.match-index.branch [
       | in-Nothing w ↦ ⊎_elim (λ e. by old false Nothing w.self-is w.answer-is refl refl e refl)
@@ -82,34 +93,31 @@ invariant_of-self t c =
           w.in-Empty.is
       | in-Rule+then-k-rule w ↦ by w.nullable.new.self w.nullable.result (Rule w.in-Rule.k) w.self-is w.answer-is
           w.nullable.ensures.nodes w.nullable.ensures.rules w.in-Rule.is
-          (at_part old old w.in-Rule.k w.body-body.result (body_at (vec_items old.rules.bodies) w.in-Rule.k) w.nullable.result refl refl
-          w.nullable.ensures.value w.body-body.ensures
+          (w.nullable.ensures.value ∙ ap (null_in old w.in-Rule.k) w.body-body.ensures
           ∙ sym (cond-true _ _ _ (lt-ltb w.in-Rule.k r w.if-k-rule.true)))
       | in-Rule+else-k-rule w ↦ by old (ltb w.in-Rule.k r) (Rule w.in-Rule.k) w.self-is w.answer-is refl refl w.in-Rule.is
           (le-ltb w.in-Rule.k r w.if-k-rule.false ∙ sym (cond-false _ _ _ (le-ltb w.in-Rule.k r w.if-k-rule.false)))
       | in-Union+then-left w ↦ by w.nullable-right.new.self w.nullable-left.result (Union w.in-Union.a w.in-Union.b) w.self-is w.answer-is
           (w.nullable-right.ensures.nodes ∙ w.nullable-left.ensures.nodes) (w.nullable-right.ensures.rules ∙ w.nullable-left.ensures.rules) w.in-Union.is
           (or_then w.nullable-left.result _ (null_in old r (earlier i w.in-Union.b))
-          (at_part old old r w.earlier_of.result (earlier i w.in-Union.a) w.nullable-left.result refl refl w.nullable-left.ensures.value w.earlier_of.ensures)
+          (at_part old old r i w.in-Union.a w.nullable-left.result refl refl w.nullable-left.ensures.value (below (Union w.in-Union.a w.in-Union.b) w.in-Union.is).0)
           w.if-left.true)
       | in-Union+else-left w ↦ by w.nullable-right.new.self w.nullable-right.result (Union w.in-Union.a w.in-Union.b) w.self-is w.answer-is
           (w.nullable-right.ensures.nodes ∙ w.nullable-left.ensures.nodes) (w.nullable-right.ensures.rules ∙ w.nullable-left.ensures.rules) w.in-Union.is
           (or_else w.nullable-left.result w.nullable-right.result _ _
-          (at_part old old r w.earlier_of.result (earlier i w.in-Union.a) w.nullable-left.result refl refl w.nullable-left.ensures.value w.earlier_of.ensures)
+          (at_part old old r i w.in-Union.a w.nullable-left.result refl refl w.nullable-left.ensures.value (below (Union w.in-Union.a w.in-Union.b) w.in-Union.is).0)
           w.if-left.false
-          (at_part old w.nullable-left.new.self r w.earlier_of-in-Union.result (earlier i w.in-Union.b) w.nullable-right.result
-          w.nullable-left.ensures.nodes w.nullable-left.ensures.rules w.nullable-right.ensures.value w.earlier_of-in-Union.ensures))
+          (at_part old w.nullable-left.new.self r i w.in-Union.b w.nullable-right.result w.nullable-left.ensures.nodes w.nullable-left.ensures.rules w.nullable-right.ensures.value (below (Union w.in-Union.a w.in-Union.b) w.in-Union.is).1))
       | in-Seq+then-left-2 w ↦ by w.nullable-right-in-Seq.new.self w.nullable-right-in-Seq.result (Seq w.in-Seq.a w.in-Seq.b) w.self-is w.answer-is
           (w.nullable-right-in-Seq.ensures.nodes ∙ w.nullable-left-in-Seq.ensures.nodes) (w.nullable-right-in-Seq.ensures.rules ∙ w.nullable-left-in-Seq.ensures.rules) w.in-Seq.is
           (and_then w.nullable-left-in-Seq.result w.nullable-right-in-Seq.result _ _
-          (at_part old old r w.earlier_of-in-Seq.result (earlier i w.in-Seq.a) w.nullable-left-in-Seq.result refl refl w.nullable-left-in-Seq.ensures.value w.earlier_of-in-Seq.ensures)
+          (at_part old old r i w.in-Seq.a w.nullable-left-in-Seq.result refl refl w.nullable-left-in-Seq.ensures.value (below (Seq w.in-Seq.a w.in-Seq.b) w.in-Seq.is).0)
           w.if-left-2.true
-          (at_part old w.nullable-left-in-Seq.new.self r w.earlier_of-in-Seq-2.result (earlier i w.in-Seq.b) w.nullable-right-in-Seq.result
-          w.nullable-left-in-Seq.ensures.nodes w.nullable-left-in-Seq.ensures.rules w.nullable-right-in-Seq.ensures.value w.earlier_of-in-Seq-2.ensures))
+          (at_part old w.nullable-left-in-Seq.new.self r i w.in-Seq.b w.nullable-right-in-Seq.result w.nullable-left-in-Seq.ensures.nodes w.nullable-left-in-Seq.ensures.rules w.nullable-right-in-Seq.ensures.value (below (Seq w.in-Seq.a w.in-Seq.b) w.in-Seq.is).1))
       | in-Seq+else-left-2 w ↦ by w.nullable-right-in-Seq.new.self w.nullable-left-in-Seq.result (Seq w.in-Seq.a w.in-Seq.b) w.self-is w.answer-is
           (w.nullable-right-in-Seq.ensures.nodes ∙ w.nullable-left-in-Seq.ensures.nodes) (w.nullable-right-in-Seq.ensures.rules ∙ w.nullable-left-in-Seq.ensures.rules) w.in-Seq.is
           (and_else w.nullable-left-in-Seq.result _ (null_in old r (earlier i w.in-Seq.b))
-          (at_part old old r w.earlier_of-in-Seq.result (earlier i w.in-Seq.a) w.nullable-left-in-Seq.result refl refl w.nullable-left-in-Seq.ensures.value w.earlier_of-in-Seq.ensures)
+          (at_part old old r i w.in-Seq.a w.nullable-left-in-Seq.result refl refl w.nullable-left-in-Seq.ensures.value (below (Seq w.in-Seq.a w.in-Seq.b) w.in-Seq.is).0)
           w.if-left-2.false)
     ] in
     let new : Expressions = c.match-index.self in
@@ -133,6 +141,8 @@ returns-clause-value t c =
     b' ≡ null_node (vec_items old.nodes) (vec_items old.rules.bodies) r i n → Told old c.match-index.self r i c.match-index.answer =
     λ v' b' n p q nodes rules is e.
     by_node old c.match-index.self v' r i c.match-index.answer b' c.index.result.now n p q nodes rules lt c.index.ensures is e in
+    let below : (n : Node) → c.index.result.now ≡ n → PartsBelow i n =
+    λ n is. parts_at old i n lt (read_at old i c.index.result.now n lt c.index.ensures is) in
     let told : Told old c.match-index.self r i c.match-index.answer =
     elim c.match-index.branch [
       | in-Nothing w ↦ ⊎_elim (λ e. by old false Nothing w.self-is w.answer-is refl refl e refl)
@@ -144,34 +154,31 @@ returns-clause-value t c =
           w.in-Empty.is
       | in-Rule+then-k-rule w ↦ by w.nullable.new.self w.nullable.result (Rule w.in-Rule.k) w.self-is w.answer-is
           w.nullable.ensures.nodes w.nullable.ensures.rules w.in-Rule.is
-          (at_part old old w.in-Rule.k w.body-body.result (body_at (vec_items old.rules.bodies) w.in-Rule.k) w.nullable.result refl refl
-          w.nullable.ensures.value w.body-body.ensures
+          (w.nullable.ensures.value ∙ ap (null_in old w.in-Rule.k) w.body-body.ensures
           ∙ sym (cond-true _ _ _ (lt-ltb w.in-Rule.k r w.if-k-rule.true)))
       | in-Rule+else-k-rule w ↦ by old (ltb w.in-Rule.k r) (Rule w.in-Rule.k) w.self-is w.answer-is refl refl w.in-Rule.is
           (le-ltb w.in-Rule.k r w.if-k-rule.false ∙ sym (cond-false _ _ _ (le-ltb w.in-Rule.k r w.if-k-rule.false)))
       | in-Union+then-left w ↦ by w.nullable-right.new.self w.nullable-left.result (Union w.in-Union.a w.in-Union.b) w.self-is w.answer-is
           (w.nullable-right.ensures.nodes ∙ w.nullable-left.ensures.nodes) (w.nullable-right.ensures.rules ∙ w.nullable-left.ensures.rules) w.in-Union.is
           (or_then w.nullable-left.result _ (null_in old r (earlier i w.in-Union.b))
-          (at_part old old r w.earlier_of.result (earlier i w.in-Union.a) w.nullable-left.result refl refl w.nullable-left.ensures.value w.earlier_of.ensures)
+          (at_part old old r i w.in-Union.a w.nullable-left.result refl refl w.nullable-left.ensures.value (below (Union w.in-Union.a w.in-Union.b) w.in-Union.is).0)
           w.if-left.true)
       | in-Union+else-left w ↦ by w.nullable-right.new.self w.nullable-right.result (Union w.in-Union.a w.in-Union.b) w.self-is w.answer-is
           (w.nullable-right.ensures.nodes ∙ w.nullable-left.ensures.nodes) (w.nullable-right.ensures.rules ∙ w.nullable-left.ensures.rules) w.in-Union.is
           (or_else w.nullable-left.result w.nullable-right.result _ _
-          (at_part old old r w.earlier_of.result (earlier i w.in-Union.a) w.nullable-left.result refl refl w.nullable-left.ensures.value w.earlier_of.ensures)
+          (at_part old old r i w.in-Union.a w.nullable-left.result refl refl w.nullable-left.ensures.value (below (Union w.in-Union.a w.in-Union.b) w.in-Union.is).0)
           w.if-left.false
-          (at_part old w.nullable-left.new.self r w.earlier_of-in-Union.result (earlier i w.in-Union.b) w.nullable-right.result
-          w.nullable-left.ensures.nodes w.nullable-left.ensures.rules w.nullable-right.ensures.value w.earlier_of-in-Union.ensures))
+          (at_part old w.nullable-left.new.self r i w.in-Union.b w.nullable-right.result w.nullable-left.ensures.nodes w.nullable-left.ensures.rules w.nullable-right.ensures.value (below (Union w.in-Union.a w.in-Union.b) w.in-Union.is).1))
       | in-Seq+then-left-2 w ↦ by w.nullable-right-in-Seq.new.self w.nullable-right-in-Seq.result (Seq w.in-Seq.a w.in-Seq.b) w.self-is w.answer-is
           (w.nullable-right-in-Seq.ensures.nodes ∙ w.nullable-left-in-Seq.ensures.nodes) (w.nullable-right-in-Seq.ensures.rules ∙ w.nullable-left-in-Seq.ensures.rules) w.in-Seq.is
           (and_then w.nullable-left-in-Seq.result w.nullable-right-in-Seq.result _ _
-          (at_part old old r w.earlier_of-in-Seq.result (earlier i w.in-Seq.a) w.nullable-left-in-Seq.result refl refl w.nullable-left-in-Seq.ensures.value w.earlier_of-in-Seq.ensures)
+          (at_part old old r i w.in-Seq.a w.nullable-left-in-Seq.result refl refl w.nullable-left-in-Seq.ensures.value (below (Seq w.in-Seq.a w.in-Seq.b) w.in-Seq.is).0)
           w.if-left-2.true
-          (at_part old w.nullable-left-in-Seq.new.self r w.earlier_of-in-Seq-2.result (earlier i w.in-Seq.b) w.nullable-right-in-Seq.result
-          w.nullable-left-in-Seq.ensures.nodes w.nullable-left-in-Seq.ensures.rules w.nullable-right-in-Seq.ensures.value w.earlier_of-in-Seq-2.ensures))
+          (at_part old w.nullable-left-in-Seq.new.self r i w.in-Seq.b w.nullable-right-in-Seq.result w.nullable-left-in-Seq.ensures.nodes w.nullable-left-in-Seq.ensures.rules w.nullable-right-in-Seq.ensures.value (below (Seq w.in-Seq.a w.in-Seq.b) w.in-Seq.is).1))
       | in-Seq+else-left-2 w ↦ by w.nullable-right-in-Seq.new.self w.nullable-left-in-Seq.result (Seq w.in-Seq.a w.in-Seq.b) w.self-is w.answer-is
           (w.nullable-right-in-Seq.ensures.nodes ∙ w.nullable-left-in-Seq.ensures.nodes) (w.nullable-right-in-Seq.ensures.rules ∙ w.nullable-left-in-Seq.ensures.rules) w.in-Seq.is
           (and_else w.nullable-left-in-Seq.result _ (null_in old r (earlier i w.in-Seq.b))
-          (at_part old old r w.earlier_of-in-Seq.result (earlier i w.in-Seq.a) w.nullable-left-in-Seq.result refl refl w.nullable-left-in-Seq.ensures.value w.earlier_of-in-Seq.ensures)
+          (at_part old old r i w.in-Seq.a w.nullable-left-in-Seq.result refl refl w.nullable-left-in-Seq.ensures.value (below (Seq w.in-Seq.a w.in-Seq.b) w.in-Seq.is).0)
           w.if-left-2.false)
     ] in
     told.value

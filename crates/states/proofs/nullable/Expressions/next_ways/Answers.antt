@@ -1,6 +1,7 @@
-use Rattle.std.proofs.Common.{◌≡◌, vec_items, refl, ⊎_elim}
+use Rattle.std.proofs.Common.{◌≡◌, length, vec_items, refl, ⊎_elim}
 use Rattle.model.specs.declared.nodes.Node.TheVariants.{Nothing, Empty, Simple, Rule, Element, Union, Seq, Star}
 use Rattle.states.specs.Test.{no_ways}
+use Rattle.states.proofs.Nullables.{read_at, parts_at, here}
 use Rattle.states.proofs.Tests.{next_ways, union_ways, seq_ways, star_ways}
 use Rattle.states.proofs.nullable.Expressions.next_ways.Goals as goal
 
@@ -32,12 +33,15 @@ returns-in-Union-clause-value c =
 pub returns-in-Seq-clause-value : goal.returns-in-Seq-clause-value
 returns-in-Seq-clause-value c =
     let e = c.args.self.now in
+    let k = length c.args.table.now in
+    let below = parts_at e k (Seq c.in-Seq.a c.in-Seq.b) c.requires.next
+    (read_at e k c.index.result.now (Seq c.in-Seq.a c.in-Seq.b) c.requires.next c.index.ensures c.in-Seq.is) in
     next_ways e c.args.k c.args.table.now c.index.result.now (Seq c.in-Seq.a c.in-Seq.b) c.then.result
     c.requires.next c.index.ensures c.in-Seq.is
     (seq_ways (vec_items e.nodes) (vec_items e.rules.bodies) c.args.k c.args.table.now
-    c.in-Seq.a c.in-Seq.b c.earlier_of.result c.at-in-Seq.result c.at-in-Seq-2.result c.then.result
+    c.in-Seq.a c.in-Seq.b c.in-Seq.a c.at-in-Seq.result c.at-in-Seq-2.result c.then.result
     c.nullable-left_nullable.result e.fine.0 c.requires.filled c.at-in-Seq.ensures c.at-in-Seq-2.ensures
-    c.earlier_of.ensures c.nullable-left_nullable.ensures.value c.then.ensures)
+    (here k c.in-Seq.a below.0) c.nullable-left_nullable.ensures.value c.then.ensures)
 
 pub returns-in-Star-clause-value : goal.returns-in-Star-clause-value
 returns-in-Star-clause-value c =
