@@ -1,6 +1,6 @@
 -- Entering list after list.
-use Rattle.std.proofs.Common.{◌≡◌, ℕ, zero, suc, ◌+◌, ◌<◌, ◌≤◌, min, Bool, true, false, cond, leb, List, [], ◌∷◌, ◌++◌, length, take, sym, refl, ap, ◌∙◌, subst, ⊎_elim, add-one, arith}
-use Rattle.std.proofs.lemmas.Bool.{cond-true, cond-false, le-leb, lt-leb, leb-true, leb-false, cases_eq, cases_lt}
+use Rattle.std.proofs.Common.{◌≡◌, ℕ, zero, suc, ◌+◌, ◌<◌, ◌≤◌, Bool, true, false, cond, leb, List, [], ◌∷◌, ◌++◌, length, take, sym, refl, ap, ◌∙◌, subst, ⊎_elim, add-one, arith}
+use Rattle.std.proofs.lemmas.Bool.{cond-true, cond-false, le-leb, lt-leb, leb-true, leb-false, cases_eq}
 use Rattle.std.proofs.lemmas.List.{take_all, append-nil, append_assoc, length-append, take-append-le, length-take}
 use Rattle.theory.specs.Count.{any, each, enter, entered}
 use Rattle.book.specs.declared.Book.{Book}
@@ -25,12 +25,6 @@ entered_longer {A} same book (x ∷ xs) = go (any (same x) book) (entered_longer
         one : (b : Bool) → any (same x) book ≡ b → (more : List A) × (entered same (enter same book x) xs ≡ book ++ more)
         one true e = (tail.0, tail.1 ∙ ap (λ b. cond b book (book ++ x ∷ []) ++ tail.0) e)
         one false e = (x ∷ tail.0, tail.1 ∙ ap (λ b. cond b book (book ++ x ∷ []) ++ tail.0) e ∙ append_assoc book (x ∷ []) tail.0)
-
-pub entered_length : {A : Type 0} (same : A → A → Bool) (book xs : List A) → length book ≤ length (entered same book xs)
-entered_length same book xs =
-    let more = entered_longer same book xs in
-    let e = ap length more.1 ∙ length-append book more.0 in
-    omega arith
 
 -- nothing entered
 pub fed_none : {A : Type 0} (same : A → A → Bool) (limit : ℕ) (b : List A) → length b ≤ limit → Fed same limit b b [] true
@@ -77,11 +71,6 @@ pub fed_turn : {A : Type 0} {same : A → A → Bool} {limit : ℕ} {b m a : Lis
     Fed same limit b m (each i f) true → Fed same limit m a (f i) answer → Fed same limit b a (each (i + 1) f) answer
 fed_turn {same = same} {limit} {b} {m} {a} {answer} f i first then =
     subst (λ l. Fed same limit b a l answer) (sym (each_more f i)) (fed_more first then)
-
-pub fed_skip : {A : Type 0} {same : A → A → Bool} {limit : ℕ} {b a : List A} (f : ℕ → List A) (i : ℕ) →
-    Fed same limit b a (each i f) true → f i ≡ [] → Fed same limit b a (each (i + 1) f) true
-fed_skip {same = same} {limit} {b} {a} f i first none =
-    subst (λ l. Fed same limit b a l true) (sym (each_more f i ∙ ap (λ l. each i f ++ l) none ∙ append-nil (each i f))) first
 
 pub fed_stop : {A : Type 0} {same : A → A → Bool} {limit : ℕ} {b m a : List A} (f : ℕ → List A) (i n : ℕ) → i < n →
     Fed same limit b m (each i f) true → Fed same limit m a (f i) false → Fed same limit b a (each n f) false
@@ -162,43 +151,3 @@ module _ {A : Type 0} (same : A → A → Bool) where
   pub fills_end : (b a : Book A) (f : ℕ → List A) (i n : ℕ) → i ≤ n → n ≤ i → Fills same b a (each i f) true →
       Fills same b a (each n f) true
   fills_end b a f i n le ge = let e : i ≡ n = omega arith in fills_as b a (each i f) (each n f) true (ap (λ k. each k f) e)
-
-take_within : {A : Type 0} (n k : ℕ) (l : List A) → k ≡ min n (length l) → take k l ≡ take n l
-take_within n k l e = ⊎_elim
-    (λ (le : n < length l). let same : k ≡ n = omega arith in ap (λ j. take j l) same)
-    (λ ge. let all : k ≡ length l = omega arith in
-    let long : length l ≤ k = omega arith in
-    take_all k l long ∙ sym (take_all n l ge))
-    (cases_lt n (length l))
-
--- What stands in the lent records once a list was entered in an empty book: the distinct records of
--- the list, as many as have room.
-pub fed_written : {A : Type 0} (same : A → A → Bool) (n : ℕ) (records list : List A) (answer : Bool) →
-    Fed same (length records) [] (take n records) list answer →
-    take (length (entered same [] list)) records ≡ take (length records) (entered same [] list)
-fed_written {A} same n records list answer fed = ⊎_elim
-    (λ (over : length records < length whole).
-    let e = ap length fed.held in
-    let a = length-take n records in
-    let b = length-take (length records) whole in
-    let le : length records ≤ length whole = omega arith in
-    let at : length records ≤ n = omega arith in
-    take_all (length whole) records le ∙ sym (take_all n records at) ∙ fed.held)
-    (λ (room : length whole ≤ length records).
-    let e = ap length (fed.held ∙ take_all (length records) whole room) in
-    let a = length-take n records in
-    let k : length whole ≡ min n (length records) = omega arith in
-    take_within n (length whole) records k ∙ fed.held)
-    (cases_lt (length records) (length whole))
-  where
-    whole : List A
-    whole = entered same [] list
-
--- the number of records in an empty book that all of a list had room in
-pub fed_count : {A : Type 0} (same : A → A → Bool) (n : ℕ) (records list : List A) →
-    Fed same (length records) [] (take n records) list true → n ≤ length records → n ≡ length (entered same [] list)
-fed_count same n records list fed le =
-    let room = leb-true (length (entered same [] list)) (length records) (sym fed.fits) in
-    let e = ap length (fed.held ∙ take_all (length records) (entered same [] list) room) in
-    let a = length-take n records in
-    omega arith

@@ -4,7 +4,7 @@ use native.Mathlib.Nat.{div-eq_of_lt, div_self, mul-mod_left, add-mul-div_right,
 use lib.Bits.{bit_or, or_shr, or_mod}
 use lib.Pow.{high}
 use Rattle.std.proofs.lemmas.Nat.{pow_pos, pow_below, shl-shr, mod_below}
-use Rattle.std.proofs.lemmas.Bool.{cases_lt, cases_eq, cond-true, and_parts, and_right, eq-eqb, ne_eqb, lt-ltb, ltb-true}
+use Rattle.std.proofs.lemmas.Bool.{cases_lt, cases_eq, cond-true, and_right, eq-eqb, ne_eqb, lt-ltb}
 use Rattle.model.specs.Sets.{has, insert}
 use Rattle.theory.specs.Inequality.{bit}
 
@@ -70,9 +70,6 @@ has_insert s q p lt =
 -- nothing is in the empty set
 pub has_none : (p : ℕ) → has 0 p ≡ false
 has_none p = and_right (ltb p 128) _ (ap (λ n. eqb (n % 2) 1) (div-eq_of_lt (pow_pos p)))
-
-pub has_small : (s p : ℕ) → has s p ≡ true → p < 128
-has_small s p e = ltb-true p 128 (and_parts (ltb p 128) _ e).0
 
 -- the number whose bits below n are told by f
 abbrev pub mask : (ℕ → Bool) → ℕ → ℕ

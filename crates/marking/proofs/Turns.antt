@@ -1,15 +1,14 @@
 -- The turns of marking.
-use Rattle.std.proofs.Common.{◌≡◌, ℕ, ◌+◌, ◌<◌, ◌≤◌, Bool, true, false, cond, List, [], ◌∷◌, ◌++◌, length, get_or, take, set, Some, None, Option, sym, refl, ap, ◌∙◌, subst, ⊎_elim, arith}
+use Rattle.std.proofs.Common.{◌≡◌, ℕ, ◌+◌, ◌<◌, ◌≤◌, Bool, true, false, cond, List, [], ◌∷◌, ◌++◌, length, get_or, take, set, Some, None, Option, sym, refl, ◌∙◌, subst, arith}
 use Rattle.std.specs.Option.{is_some}
 use Rattle.std.proofs.lemmas.List.{length-take-le, length-set, take_more_set, get_or-set_same, get_or-set_other}
-use Rattle.std.proofs.lemmas.Bool.{cases_eq}
 use Rattle.model.specs.declared.rows.Row.{Row}
 use Rattle.model.specs.declared.rows.Item.{Item}
 use Rattle.model.specs.Blank.{blank_row}
 use Rattle.theory.specs.Machine.{Machine}
 use Rattle.marking.specs.Refutes.{Marks, refutation}
-use Rattle.marking.specs.Marks.{mark_at, Marked, StillFrom, Rooted}
-use Rattle.marking.specs.Steps.{Roomy, Ready, Step, Sweeping, Swept}
+use Rattle.marking.specs.Marks.{mark_at, Marked, Rooted}
+use Rattle.marking.specs.Steps.{Roomy, Ready, Step}
 use Rattle.theory.specs.Inequality.{inconsistent}
 use Rattle.marking.proofs.Marked.{unset_one, marked_start, marked_more}
 
@@ -36,19 +35,6 @@ used_below m rows marks items used i ready li was =
     let f = ready.marked.few in
     let o = unset_one marks i (length rows) li was in
     omega arith
-
--- a row that is marked, or that no marked rows refute
-pub step_none : (m : Machine) (rows : List Row) (i : ℕ) (marks : Marks) (items : List Item) (used : ℕ) →
-    Ready m rows marks items used → (mark_at marks i ≡ None → refutation m rows marks (get_or rows i blank_row) ≡ None) →
-    Step m rows i marks marks items used used
-step_none m rows i marks items used ready none = record {
-  ready = ready;
-  rises = omega arith;
-  same = λ e. refl;
-  still = λ e was. none was;
-  others = λ k ne. refl;
-  here = λ k was is. let e : None ≡ Some k = sym was ∙ is in cc;
-}
 
 -- a row that is refuted now
 pub step_new : (m : Machine) (rows : List Row) (i : ℕ) (marks : Marks) (items : List Item) (used : ℕ) (x : Item) →
@@ -83,57 +69,6 @@ step_new m rows i marks items used x ready li was found =
       others = λ k ne. get_or-set_other marks i k (Some (used + 1)) None ne;
       here = λ k was' is. let h : Some k ≡ Some (used + 1) = sym is ∙ get_or-set_same marks i (Some (used + 1)) None il in cc;
     }
-
-pub sweep_start : (m : Machine) (rows : List Row) (marks : Marks) (items : List Item) (used : ℕ) → Ready m rows marks items used →
-    Sweeping m rows (length rows) marks marks items used used
-sweep_start m rows marks items used ready = record {
-  ready = ready;
-  rises = omega arith;
-  same = λ e. refl;
-  still = λ e k ge lt. absurd (omega arith);
-  others = λ k lt. refl;
-  rooted = λ e was k is. let z : None ≡ Some k = sym was ∙ is in cc;
-}
-
-pub sweep_turn : (m : Machine) (rows : List Row) (i : ℕ) (marks marks' marks'' : Marks) (items' items'' : List Item) (used used' used'' : ℕ) →
-    Sweeping m rows (i + 1) marks marks' items' used used' → Step m rows i marks' marks'' items'' used' used'' →
-    Sweeping m rows i marks marks'' items'' used used''
-sweep_turn m rows i marks marks' marks'' items' items'' used used' used'' sw st = record {
-  ready = st.ready;
-  rises = let a = sw.rises in let b = st.rises in omega arith;
-  same = λ e. st.same (second e) ∙ sw.same (first' e);
-  still = λ e k ge lt was. ⊎_elim
-      (λ (at : k ≡ i).
-      let unchanged = sw.same (first' e) in
-      subst (λ ms. refutation m rows ms (get_or rows k blank_row) ≡ None) unchanged
-      (subst (λ j. refutation m rows marks' (get_or rows j blank_row) ≡ None) (sym at)
-      (st.still (second e) (ap (λ ms. mark_at ms i) unchanged ∙ ap (mark_at marks) (sym at) ∙ was))))
-      (λ ne. sw.still (first' e) k (omega arith) lt was)
-      (cases_eq k i);
-  others = λ k lt. st.others k (λ e. never k lt e) ∙ sw.others k (omega arith);
-  rooted = λ e was k is.
-      let before : mark_at marks' 0 ≡ None = sw.others 0 (omega arith) ∙ was in
-      let at : mark_at marks'' i ≡ mark_at marks'' 0 = ap (mark_at marks'') e in
-      st.here k (ap (mark_at marks') e ∙ before) (at ∙ is);
-}
-  where
-    first' : used'' ≡ used → used' ≡ used
-    first' e = let a = sw.rises in let b = st.rises in omega arith
-
-    second : used'' ≡ used → used'' ≡ used'
-    second e = let a = sw.rises in let b = st.rises in omega arith
-
-    never : (k : ℕ) → k < i → k ≡ i → ⊥
-    never k lt e = omega arith
-
-pub sweep_end : (m : Machine) (rows : List Row) (i : ℕ) (marks marks' : Marks) (items' : List Item) (used used' : ℕ) → i ≡ 0 →
-    Sweeping m rows i marks marks' items' used used' → Swept m rows marks marks' items' used used'
-sweep_end m rows i marks marks' items' used used' e sw = record {
-  ready = sw.ready;
-  rises = sw.rises;
-  still = λ same. subst (λ ms. StillFrom m rows ms 0) (sym (sw.same same)) (subst (StillFrom m rows marks) e (sw.still same));
-  rooted = sw.rooted e;
-}
 
 -- how marking begins
 pub settle_start : (m : Machine) (rows : List Row) (marks marks' : Marks) (items : List Item) → 0 < length rows →

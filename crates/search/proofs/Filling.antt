@@ -1,35 +1,13 @@
 -- Blanking from a number on, and keeping the unmarked ones of a list in place.
-use Rattle.std.proofs.Common.{◌≡◌, ℕ, ◌+◌, ◌-◌, ◌<◌, ◌≤◌, Bool, true, false, cond, List, [], ◌∷◌, ◌++◌, length, get_or, take, drop, set, replicate, None, sym, refl, ap, ◌∙◌, ap₂, add-zero, arith}
+use Rattle.std.proofs.Common.{◌≡◌, ℕ, ◌+◌, ◌<◌, ◌≤◌, Bool, true, false, cond, List, [], ◌∷◌, ◌++◌, length, get_or, take, drop, set, None, sym, refl, ap, ◌∙◌, ap₂, add-zero, arith}
 use Rattle.std.specs.Option.{is_some}
-use Rattle.std.proofs.lemmas.List.{append-nil, append_assoc, take_all, take_more, take_more_set, replicate_more, length-take-le, length-map, map_more, drop-set-lt, get_or-drop, drop-drop, length-set, length-append, length-replicate, length-take}
+use Rattle.std.proofs.lemmas.List.{append-nil, take_more, take_more_set, length-take-le, length-map, map_more, drop-set-lt, get_or-drop, drop-drop, length-set}
 use Rattle.std.proofs.lemmas.Bool.{cond-true, cond-false}
 use Rattle.model.specs.declared.rows.Row.{Row}
 use Rattle.model.specs.Blank.{blank_row}
 use Rattle.inequality.specs.Verdicts.{unmarked}
 use Rattle.marking.specs.Refutes.{Marks}
 use Rattle.marking.specs.Marks.{mark_at, flags}
-
-pub blank_start : {A : Type 0} (xs : List A) (b : A) (n : ℕ) → take n xs ≡ take n xs ++ replicate (n - n) b
-blank_start xs b n = let z : n - n ≡ 0 = omega arith in sym (ap (λ k. take n xs ++ replicate k b) z ∙ append-nil (take n xs))
-
-pub blank_turn : {A : Type 0} (xs ys : List A) (b y : A) (n i : ℕ) → y ≡ b → n ≤ i → i < length ys →
-    take i ys ≡ take n xs ++ replicate (i - n) b → take (i + 1) (set ys i y) ≡ take n xs ++ replicate (i + 1 - n) b
-blank_turn xs ys b y n i is le lt inv =
-    let z : (i - n) + 1 ≡ i + 1 - n = omega arith in
-    ap (λ v. take (i + 1) (set ys i v)) is
-    ∙ take_more_set ys i b lt ∙ ap (λ l. l ++ b ∷ []) inv ∙ append_assoc (take n xs) (replicate (i - n) b) (b ∷ [])
-    ∙ ap (λ l. take n xs ++ l) (replicate_more (i - n) b ∙ ap (λ k. replicate k b) z)
-
-pub blank_end : {A : Type 0} (xs ys : List A) (b : A) (n i : ℕ) → length ys ≡ length xs → length ys ≤ i →
-    take i ys ≡ take n xs ++ replicate (i - n) b → ys ≡ take n xs ++ replicate (length xs - n) b
-blank_end xs ys b n i same ge inv =
-    let whole = sym (take_all i ys ge) ∙ inv in
-    let e = ap length whole in
-    let f = length-append (take n xs) (replicate (i - n) b) in
-    let g = length-replicate (i - n) b in
-    let h = length-take n xs in
-    let k : i - n ≡ length xs - n = omega arith in
-    whole ∙ ap (λ j. take n xs ++ replicate j b) k
 
 -- what one row more adds to the unmarked ones
 unmarked_push : (xs : List Row) (ms : List Bool) (r : Row) (b : Bool) → length xs ≡ length ms →
@@ -60,9 +38,6 @@ pub record Keeping (rows rows' : List Row) (marks : Marks) (i kept : ℕ) : Type
   pub front : take kept rows' ≡ unmarked (take i rows) (flags marks i)
   pub back : drop i rows' ≡ drop i rows
   pub long : length rows' ≡ length rows
-
-pub keep_start : (rows : List Row) (marks : Marks) → Keeping rows rows marks 0 0
-keep_start rows marks = record { few = omega arith; front = refl; back = refl; long = refl }
 
 pub keep_skip : (rows rows' : List Row) (marks : Marks) (i kept : ℕ) → i < length rows → i < length marks →
     is_some (mark_at marks i) ≡ true → Keeping rows rows' marks i kept → Keeping rows rows' marks (i + 1) kept
@@ -96,13 +71,3 @@ keep_take rows rows' marks i kept lr lm free inv =
   where
     at : (i : ℕ) → i + 0 ≡ i → (ys : List Row) → get_or ys i blank_row ≡ get_or (drop i ys) 0 blank_row
     at i e ys = sym (get_or-drop i ys 0 blank_row ∙ ap (λ k. get_or ys k blank_row) e)
-
-pub keep_end : (rows rows' : List Row) (marks : Marks) (i n kept : ℕ) → i ≡ n → n ≤ length rows → Keeping rows rows' marks i kept →
-    (kept ≡ length (unmarked (take n rows) (flags marks n))) × (take kept rows' ≡ unmarked (take n rows) (flags marks n))
-keep_end rows rows' marks i n kept at le inv =
-    let front : take kept rows' ≡ unmarked (take n rows) (flags marks n) = inv.front ∙ ap (kept_of rows marks) at in
-    let e = ap length front in
-    let h = inv.few in
-    let l = inv.long in
-    let f = length-take-le kept rows' (omega arith) in
-    (omega arith, front)

@@ -1,6 +1,6 @@
 -- The turns of a meeting: it ends, meets a wide row, goes on, or runs out of rows.
-use Rattle.std.proofs.Common.{◌≡◌, ℕ, zero, suc, ◌+◌, ◌-◌, ◌<◌, ◌≤◌, Bool, true, false, ltb, List, length, get_or, [], ◌∷◌, take, Err, sym, refl, ap, ◌∙◌, arith}
-use Rattle.std.proofs.lemmas.Bool.{le-leb, lt-leb, lt-ltb, le-ltb, leb-true, leb-false}
+use Rattle.std.proofs.Common.{◌≡◌, ℕ, suc, ◌+◌, ◌-◌, ◌<◌, ◌≤◌, Bool, true, false, ltb, List, length, get_or, [], ◌∷◌, take, Err, sym, ap, ◌∙◌, arith}
+use Rattle.std.proofs.lemmas.Bool.{lt-leb, lt-ltb, le-ltb, leb-true, leb-false}
 use Rattle.std.proofs.lemmas.List.{take_all}
 use Rattle.model.specs.declared.rows.Row.{Row}
 use Rattle.model.specs.Blank.{blank_row}
@@ -14,22 +14,6 @@ use Rattle.sides.specs.declared.entering.Stop.{Stop}
 use Rattle.sides.specs.declared.entering.Stop.TheVariants.{Wide, OutOfRows}
 use Rattle.search.specs.Ends.{met_by}
 use Rattle.book.specs.Feeding.{holds, room, Fills}
-
-pub walk_end : (m : Machine) (limit steps taken : ℕ) (rows : List Row) → length rows ≤ taken →
-    meet_on m limit steps taken rows ≡ record { end = all; rows = rows }
-walk_end m limit zero taken rows le = refl
-walk_end m limit (suc steps) taken rows le =
-    let P : Bool → Met = λ b. elim b [
-      | true ↦ record { end = all; rows = rows }
-      | false ↦ elim (wide m (get_or rows taken blank_row)) [
-        | true ↦ record { end = wide_row; rows = rows }
-        | false ↦ elim (ltb limit (length (widened m rows taken))) [
-          | true ↦ record { end = out_of_rows; rows = take limit (widened m rows taken) }
-          | false ↦ meet_on m limit steps (taken + 1) (widened m rows taken)
-        ]
-      ]
-    ] in
-    ap P (le-leb (length rows) taken le)
 
 -- what a turn does once a row is there to be taken
 step : Machine → ℕ → ℕ → ℕ → List Row → Bool → Bool → Met
@@ -127,13 +111,6 @@ pub meet_start : (m : Machine) (root : Row) (b a : Book Row) → holds b ≡ [] 
 unfolding meet
 meet_start m root b a none some fills =
     ap (meet_on m (room b) (room b + 1) 0) (fills.fed.held ∙ ap (λ l. take (room b) (entered same_row l (root ∷ []))) none ∙ take_all (room b) (root ∷ []) (omega arith))
-
--- an empty book with room for a row has room for the root
-pub root_fits : (root : Row) (b a : Book Row) → holds b ≡ [] → 0 < room b → Fills same_row b a (root ∷ []) false → ⊥
-root_fits root b a none some fills =
-    let over = leb-false _ _ (sym fills.fed.fits) in
-    let e = ap (λ l. length (entered same_row l (root ∷ []))) none in
-    omega arith
 
 -- a turn that stops the meeting
 pub turn_stops : (m : Machine) (total taken : ℕ) (b a : Book Row) (r : Row) → taken < length (holds b) →

@@ -1,4 +1,3 @@
-pub mod Table
 pub mod Some
 pub mod Subset
 pub mod Crowded

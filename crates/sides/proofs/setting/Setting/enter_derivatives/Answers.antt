@@ -2,10 +2,10 @@ use Rattle.std.proofs.Common.{◌<◌, true, false, List, length, get_or, sym, a
 use Rattle.model.specs.declared.rows.Row.{Row}
 use Rattle.model.specs.Machine.{Derivative}
 use Rattle.theory.specs.Inequality.{same_row, derivative, derivative_count, no_derivative}
-use Rattle.book.proofs.Feeding.{fills_as, fills_says, fills_to, fills_when, fills_unless, fills_turn, fills_stop}
+use Rattle.book.proofs.Feeding.{fills_as, fills_to, fills_when, fills_unless, fills_turn, fills_stop}
 use Rattle.sides.specs.View.{seen}
 use Rattle.sides.specs.Steps.{derivative_sides}
-use Rattle.sides.proofs.Failing.{not_ok}
+use Rattle.sides.proofs.Failing.{fills_err}
 use Rattle.sides.proofs.setting.Setting.enter_derivatives.Goals as goal
 use Rattle.sides.proofs.setting.Setting.enter_derivatives.Goals.{then-get+in_ok-enter_subsets, else-get}
 
@@ -32,7 +32,7 @@ returns-in_err-enter_subsets c =
     let book = c.loop-derivative.book in
     let i = c.loop-derivative.derivative-index in
     let lt : i < derivative_count m c.args.q = omega (arith, ap length c.derivatives-derivative-items.ensures) in
-    fills_says same_row c.args.book.now c.enter_subsets.new.book _ _ _ (sym (not_ok c.from_residual.result c.from_residual.ensures.0))
+    fills_err c.args.book.now c.enter_subsets.new.book _ c.from_residual.result c.from_residual.ensures.0
     (fills_stop same_row c.args.book.now book c.enter_subsets.new.book (λ i. of (derivative m c.args.q i)) i _ lt c.loop-derivative.invariant
     (fills_as same_row book c.enter_subsets.new.book _ _ false
     (ap (λ (l : List Derivative). of (get_or l i no_derivative)) c.derivatives-derivative-items.ensures)

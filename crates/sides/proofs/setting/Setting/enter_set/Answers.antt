@@ -1,10 +1,10 @@
-use Rattle.std.proofs.Common.{◌<◌, ◌≤◌, length, sym, refl, ap, ◌∙◌, arith}
+use Rattle.std.proofs.Common.{◌<◌, ◌≤◌, length, sym, ap, ◌∙◌, arith}
 use Rattle.arrayvec.specs.ArrayVec.{ArrayVec}
 use Rattle.theory.specs.Inequality.{Pair, all_pairs}
 use Rattle.sides.specs.View.{seen}
 use Rattle.sides.specs.Steps.{state_step}
-use Rattle.sides.proofs.Failing.{not_ok}
-use Rattle.sides.proofs.Gathering.{gather_as, gather_to, gather_when, gather_unless, gather_turn, gather_stop, gather_end}
+use Rattle.sides.proofs.Failing.{gather_err}
+use Rattle.sides.proofs.Gathering.{gather_to, gather_when, gather_unless, gather_turn, gather_stop, gather_end}
 use Rattle.sides.proofs.setting.Setting.enter_set.Goals as goal
 use Rattle.sides.proofs.setting.Setting.enter_set.Goals.{then-contains+in_ok-enter_state, else-contains}
 
@@ -25,7 +25,7 @@ unfolding all_pairs
 returns-in_err-enter_state c =
     let m = seen c.args.self.now in
     let lt : c.loop-q.q < length m.states = omega (arith, c.count-q-end.ensures) in
-    gather_as refl (sym (not_ok c.from_residual.result c.from_residual.ensures.0))
+    gather_err c.from_residual.result c.from_residual.ensures.0
     (gather_stop c.args.pairs.now.items c.loop-q.pairs.items c.enter_state.new.pairs.items (state_step m c.args.t c.args.set.now.bits) c.loop-q.q _ lt
     c.loop-q.invariant
     (gather_when _ _ _ _ _ (sym c.contains.ensures ∙ c.if-contains.true) c.in_err-enter_state.ensures))

@@ -1,9 +1,9 @@
-use Rattle.std.proofs.Common.{◌<◌, ◌≤◌, List, length, get_or, sym, refl, ap, arith}
+use Rattle.std.proofs.Common.{◌<◌, ◌≤◌, List, length, get_or, refl, ap, arith}
 use Rattle.model.specs.Machine.{Derivative}
 use Rattle.theory.specs.Inequality.{no_derivative, derivative_count, pairs_of}
 use Rattle.sides.specs.View.{seen}
 use Rattle.sides.specs.Steps.{pair_of, pair_step}
-use Rattle.sides.proofs.Failing.{not_ok}
+use Rattle.sides.proofs.Failing.{gather_err}
 use Rattle.sides.proofs.Gathering.{gather_as, gather_turn, gather_stop, gather_end}
 use Rattle.sides.proofs.setting.Setting.enter_state.Goals as goal
 
@@ -20,7 +20,7 @@ unfolding pairs_of
 returns-in_err-enter_pair c =
     let m = seen c.args.self.now in
     let lt : c.loop-derivative.derivative-index < derivative_count m c.args.q = omega (arith, ap length c.derivatives-derivative-items.ensures) in
-    gather_as refl (sym (not_ok c.from_residual.result c.from_residual.ensures.0))
+    gather_err c.from_residual.result c.from_residual.ensures.0
     (gather_stop c.args.pairs.now.items c.loop-derivative.pairs.items c.enter_pair.new.pairs.items (pair_step m c.args.t c.args.q) c.loop-derivative.derivative-index _ lt
     c.loop-derivative.invariant
     (gather_as (ap (λ (l : List Derivative). pair_of m.covers c.args.t (get_or l c.loop-derivative.derivative-index no_derivative)) c.derivatives-derivative-items.ensures)
