@@ -44,6 +44,12 @@ item_sound names k i h =
 pub padded_length : {X : Type 0} (b : X) (n : ℕ) (xs : List X) → length xs ≤ n → length (padded b n xs) ≡ n
 padded_length b n xs h = length-append xs (replicate (n - length xs) b) ∙ omega (arith, length-replicate (n - length xs) b)
 
+-- no records, and blanks alone
+padded_none : {X : Type 0} (b : X) (m : ℕ) (xs : List X) → xs ≡ [] → padded b m xs ≡ replicate (length (padded b m xs)) b
+padded_none b m xs e =
+    let is : padded b m xs ≡ replicate m b = ap (padded b m) e ∙ ap (λ l. replicate l b) (sub-zero m) in
+    is ∙ ap (λ l. replicate l b) (sym (ap length is ∙ length-replicate m b))
+
 -- the rows of a list with blanks after it
 rows_sound : (states n : ℕ) (rows : List Row) → length rows ≤ n → AllByRecursion (RowFits states) rows → (items : List Item) (m : ℕ) → items ≡ [] →
     RowsSound states (length rows) (padded blank_row n rows) (padded blank_item m items)
@@ -53,13 +59,8 @@ rows_sound states n rows le fit items m none =
       within = omega arith;
       fit = λ k lt. subst (RowFits states) (sym (get_or_append_left rows _ blank_row k lt)) (All-get_or (RowFits states) rows k blank_row lt fit);
       others = drop_at rows _ (length rows) refl ∙ ap (λ l. replicate (l - length rows) blank_row) (sym long);
-      no_items = blanks items none;
+      no_items = padded_none blank_item m items none;
     }
-  where
-    blanks : (items : List Item) → items ≡ [] → padded blank_item m items ≡ replicate (length (padded blank_item m items)) blank_item
-    blanks items e =
-        let is : padded blank_item m items ≡ replicate m blank_item = ap (padded blank_item m) e ∙ ap (λ l. replicate l blank_item) (sub-zero m) in
-        is ∙ ap (λ l. replicate l blank_item) (sym (ap length is ∙ length-replicate m blank_item))
 
 items_sound : (names : List Name) (n : ℕ) (items : List Item) → length items ≤ n → ItemsFit names items → (rows : List Row) (m : ℕ) → rows ≡ [] →
     ItemsSound names (length items) (padded blank_row m rows) (padded blank_item n items)
@@ -71,13 +72,8 @@ items_sound names n items le fit rows m none =
       fit = λ k lt. subst (ItemSound names k) (sym (get_or_append_left items _ blank_item k lt)) (item_sound names k _ (fit k lt));
       earlier = subst Earlier (sym front) (λ k lt. let s = item_sound names k _ (fit k lt) in (s.child_earlier, s.next_earlier));
       others = drop_at items _ (length items) refl ∙ ap (λ l. replicate (l - length items) blank_item) (sym long);
-      no_rows = blanks rows none;
+      no_rows = padded_none blank_row m rows none;
     }
-  where
-    blanks : (rows : List Row) → rows ≡ [] → padded blank_row m rows ≡ replicate (length (padded blank_row m rows)) blank_row
-    blanks rows e =
-        let is : padded blank_row m rows ≡ replicate m blank_row = ap (padded blank_row m) e ∙ ap (λ l. replicate l blank_row) (sub-zero m) in
-        is ∙ ap (λ l. replicate l blank_row) (sym (ap length is ∙ length-replicate m blank_row))
 
 -- a text that is read is kept, ends at its end line, and was given as many items as rows
 pub text_keeps : (L : Limits) (names : List Name) (s : Stage) (m n : ℕ) (bs : List ℕ) (P : Found → Type 0) →

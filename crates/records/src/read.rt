@@ -78,6 +78,7 @@ pub fn counts(rows: usize, items: usize) -> Result<(), CallFault>
     )
 }
 
+// Rows and items stay two slices: a struct that lends both would say of each call that it keeps them.
 impl Reading<'_> {
     ghost use Rattle.records.specs.Texts.{lines_read, all_read, FilledBy};
 

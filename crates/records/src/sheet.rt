@@ -41,7 +41,7 @@ pub enum Stage {
     Ended,
 }
 
-/// How far a text has been read.
+/// How far a text has been read. It has no `Sheet` in it: a hedge is read by it too, and has no pair.
 #[derive(Clone, Copy)]
 pub struct Progress {
     pub stage: Stage,

@@ -1,5 +1,6 @@
 -- The lines of a sheet that is written are judged to be what they were written of.
 use Rattle.std.proofs.Common.{◌≡◌, ℕ, zero, suc, ◌+◌, ◌/◌, ◌%◌, ◌^◌, ◌<◌, ◌≤◌, min, Bool, true, false, cond, not, ◌&&◌, eqb, ltb, leb, List, [], ◌∷◌, ◌++◌, map, length, Some, Ok, Err, codes, decimal, Result, sym, refl, ap, ◌∙◌, subst, ⊎_elim, mod-eq_of_lt, arith}
+use Rattle.std.specs.List.{list_all}
 use Rattle.std.proofs.lemmas.Nat.{pow_pos, le-div, mod_below}
 use Rattle.std.proofs.lemmas.Fmt.{digits_decimal}
 use Rattle.std.proofs.lemmas.List.{append_assoc}
@@ -9,6 +10,7 @@ use Rattle.model.specs.declared.rows.Row.{Row}
 use Rattle.model.specs.declared.rows.Item.{Item}
 use Rattle.model.specs.declared.sets.StateSet.{StateSet}
 use Rattle.model.specs.Sets.{has}
+use Rattle.text.specs.Forms.{digit}
 use Rattle.text.specs.Pieces.{after, lines}
 use Rattle.text.specs.Fields.{key, number, value_in}
 use Rattle.text.specs.Cursors.{parts_at, line_parts}
@@ -31,7 +33,7 @@ use Rattle.writing.proofs.Spelled.{members_suc, members_zero}
 use Rattle.records.proofs.Sound.{item_sound}
 use Rattle.writing.specs.Texts.{further, line_text, members, verdict_text}
 use Rattle.writing.specs.Checks.{row_fits}
-use Rattle.records_law.proofs.Numbers.{all_digits, own, value_on}
+use Rattle.records_law.proofs.Numbers.{own, value_on}
 use Rattle.records_law.proofs.Pieced.{Lacks, lacks_append, AllLack, fields_on, before_on, lines_on}
 use Rattle.records_law.proofs.Bits.{right_on, numbers_on}
 
@@ -45,10 +47,10 @@ lacks_from m [] h = tt
 lacks_from m (x ∷ xs) h = let p = and_parts (not (eqb x m)) (lacks m xs) h in (not-true (eqb x m) p.0, lacks_from m xs p.1)
 
 -- digits are neither LF nor comma
-pub lacks_digits : (m : ℕ) → m < 48 → (ds : List ℕ) → all_digits ds ≡ true → Lacks m ds
+pub lacks_digits : (m : ℕ) → m < 48 → (ds : List ℕ) → list_all digit ds ≡ true → Lacks m ds
 lacks_digits m lt [] h = tt
 lacks_digits m lt (d ∷ ds) h =
-    let p = and_parts (leb 48 d && leb d 57) (all_digits ds) h in
+    let p = and_parts (leb 48 d && leb d 57) (list_all digit ds) h in
     let low : 48 ≤ d = leb-true 48 d (and_parts (leb 48 d) (leb d 57) p.0).0 in
     (ne_eqb d m (λ e. omega (arith, e)), lacks_digits m lt ds p.1)
 

@@ -1,58 +1,32 @@
 -- Numbers as they are written and read.
-use Rattle.std.proofs.Common.{◌≡◌, ℕ, zero, suc, ◌^◌, ◌<◌, ◌≤◌, Bool, true, false, cond, not, ◌&&◌, ◌||◌, eqb, leb, List, [], ◌∷◌, length, get_or, Some, None, Ok, decimal, Option, sym, refl, ap, ◌∙◌, ⊎_elim, arith}
+use Rattle.std.proofs.Common.{◌≡◌, ℕ, zero, suc, ◌^◌, ◌<◌, ◌≤◌, Bool, true, false, cond, not, ◌||◌, eqb, leb, List, length, get_or, Some, None, Ok, decimal, Option, sym, refl, ap, ◌∙◌, ⊎_elim, arith}
+use Rattle.std.specs.List.{list_all}
 use Rattle.std.proofs.lemmas.Str.Parse.{IsNumeralModel, IsDigitsTest, numerals_by_fold, digits_value_short}
 use Rattle.std.proofs.lemmas.Fmt.{decimal_digit, decimal_nonempty, length-decimal-le, first_decimal, digits_decimal, digits_value-decimal, decimal-digits_value}
 use Rattle.std.proofs.lemmas.Bool.{and_parts, and_from, or_cases, or_left, or_right, leb-true, le-leb, eqb-true, eq-eqb, ne_eqb, not-true, not_from_false, cond-true, eqb-false}
 use Rattle.text.specs.Forms.{digit, decimal_after, is_number, number_of}
 use Rattle.text.specs.Fields.{number, value_in, or_number}
 
--- each byte is a digit
-abbrev pub all_digits : List ℕ → Bool
-all_digits [] = true
-all_digits (b ∷ bs) = digit b && all_digits bs
-
--- a test of all bytes that goes by digits is this one
-same_digits : (f : List ℕ → Bool) → f [] ≡ true → ((b : ℕ) (bs : List ℕ) → f (b ∷ bs) ≡ (digit b && f bs)) → (bs : List ℕ) → f bs ≡ all_digits bs
-same_digits f none more [] = none
-same_digits f none more (b ∷ bs) = more b bs ∙ ap (λ r. digit b && r) (same_digits f none more bs)
-
--- one to nine digits, the first of several not 0
-abbrev pub a_number : List ℕ → Bool
-a_number bs = leb 1 (length bs) && leb (length bs) 9 && (eqb (length bs) 1 || not (eqb (get_or bs 0 0) 48)) && all_digits bs
-
-by_digits : (f : List ℕ → Bool) → f [] ≡ true → ((b : ℕ) (bs : List ℕ) → f (b ∷ bs) ≡ (digit b && f bs)) →
-    (bs : List ℕ) → (leb 1 (length bs) && leb (length bs) 9 && (eqb (length bs) 1 || not (eqb (get_or bs 0 0) 48)) && f bs) ≡ a_number bs
-by_digits f none more bs = ap (λ b. leb 1 (length bs) && leb (length bs) 9 && (eqb (length bs) 1 || not (eqb (get_or bs 0 0) 48)) && b) (same_digits f none more bs)
-
-same_number : (bs : List ℕ) → is_number bs ≡ a_number bs
-same_number = by_digits _ refl (λ b l. refl)
-
 -- texts of digits and the numbers that they write
-tells : IsDigitsTest (λ ds. all_digits ds ≡ true)
+tells : IsDigitsTest (λ ds. list_all digit ds ≡ true)
 tells =
     record {
       empty = refl;
-      parts = λ c cs h. let p = and_parts (digit c) (all_digits cs) h in let q = and_parts (leb 48 c) (leb c 57) p.0 in ((leb-true 48 c q.0, leb-true c 57 q.1), p.1);
-      more = λ c cs i h. and_from (digit c) (all_digits cs) (and_from (leb 48 c) (leb c 57) (le-leb 48 c i.0) (le-leb c 57 i.1)) h;
+      parts = λ c cs h. let p = and_parts (digit c) (list_all digit cs) h in let q = and_parts (leb 48 c) (leb c 57) p.0 in ((leb-true 48 c q.0, leb-true c 57 q.1), p.1);
+      more = λ c cs i h. and_from (digit c) (list_all digit cs) (and_from (leb 48 c) (leb c 57) (le-leb 48 c i.0) (le-leb c 57 i.1)) h;
     }
 
-pub own : IsNumeralModel (λ ds. all_digits ds ≡ true) (decimal_after 0)
-own = numerals_by_fold (λ ds. all_digits ds ≡ true) tells decimal_after (record { empty = λ n. refl; more = λ n c cs h. refl })
-
-no_some : {X : Type 0} {x : X} → None ≡ Some x → ⊥
-no_some h = let z : ◌≡◌ {A = ℕ} 0 1 = cc in omega arith
-
-same_some : {X : Type 0} {x y : X} → Some x ≡ Some y → x ≡ y
-same_some h = cc
+pub own : IsNumeralModel (λ ds. list_all digit ds ≡ true) (decimal_after 0)
+own = numerals_by_fold (λ ds. list_all digit ds ≡ true) tells decimal_after (record { empty = λ n. refl; more = λ n c cs h. refl })
 
 -- a number that is read is written so
 pub number_back : (bs : List ℕ) (n : ℕ) → number_of bs ≡ Some n → bs ≡ decimal n
-number_back bs n h = go (is_number bs) (same_number bs) h
+number_back bs n h = go (is_number bs) refl h
   where
-    go : (b : Bool) → b ≡ a_number bs → cond b (Some (decimal_after 0 bs)) None ≡ Some n → bs ≡ decimal n
-    go false e k = absurd (no_some k)
+    go : (b : Bool) → is_number bs ≡ b → cond b (Some (decimal_after 0 bs)) None ≡ Some n → bs ≡ decimal n
+    go false e k = absurd cc
     go true e k =
-        let p = and_parts _ (all_digits bs) (sym e) in
+        let p = and_parts _ (list_all digit bs) e in
         let q = and_parts _ (eqb (length bs) 1 || not (eqb (get_or bs 0 0) 48)) p.0 in
         let r = and_parts (leb 1 (length bs)) (leb (length bs) 9) q.0 in
         let long : 1 ≤ length bs = leb-true 1 (length bs) r.0 in
@@ -60,16 +34,17 @@ number_back bs n h = go (is_number bs) (same_number bs) h
         let first : get_or bs 0 0 ≡ 48 → length bs ≡ 1 = λ z.
         ⊎_elim (λ a. eqb-true (length bs) 1 a) (λ a. absurd (eqb-false (get_or bs 0 0) 48 (not-true _ a) z)) (or_cases _ _ q.1) in
         let small : decimal_after 0 bs < 10 ^ 9 = digits_value_short own bs 9 p.1 short in
-        sym (decimal-digits_value own bs p.1 long first (omega arith)) ∙ ap decimal (same_some k)
+        let same : decimal_after 0 bs ≡ n = cc in
+        sym (decimal-digits_value own bs p.1 long first (omega arith)) ∙ ap decimal same
 
 -- a number below a thousand millions reads back
 pub number_on : (n : ℕ) → n < 1000000000 → number_of (decimal n) ≡ Some n
 number_on n h =
     let big : n < 2 ^ 64 = omega arith in
-    let digits : all_digits (decimal n) ≡ true = digits_decimal own n big in
+    let digits : list_all digit (decimal n) ≡ true = digits_decimal own n big in
     let long : leb 1 (length (decimal n)) ≡ true = le-leb 1 _ (decimal_nonempty n big) in
     let short : leb (length (decimal n)) 9 ≡ true = le-leb _ 9 (length-decimal-le 9 n (omega arith) (omega arith) big) in
-    cond-true (is_number (decimal n)) _ _ (same_number (decimal n) ∙ and_from _ _ (and_from _ _ (and_from _ _ long short) (lead n big)) digits)
+    cond-true (is_number (decimal n)) _ _ (and_from _ _ (and_from _ _ (and_from _ _ long short) (lead n big)) digits)
     ∙ ap (λ k. Some k) (digits_value-decimal own n big)
   where
     lead : (n : ℕ) → n < 2 ^ 64 → (eqb (length (decimal n)) 1 || not (eqb (get_or (decimal n) 0 0) 48)) ≡ true

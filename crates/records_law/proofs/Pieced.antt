@@ -1,7 +1,7 @@
 -- Lines and fields put together, and taken apart again.
 use Rattle.std.proofs.Common.{◌≡◌, ℕ, suc, ◌-◌, Bool, true, false, cond, eqb, List, [], ◌∷◌, ◌++◌, length, get_or, Some, sym, refl, ap, ◌∙◌, arith}
 use Rattle.std.proofs.lemmas.List.{append-nil}
-use Rattle.std.proofs.lemmas.Bool.{eq-eqb, eqb-true, cond-true, cond-false, false≢true}
+use Rattle.std.proofs.lemmas.Bool.{eq-eqb, eqb-true, cond-true, cond-false}
 use Rattle.text.specs.Pieces.{before, after, onto, pieces, lines, fields, last_byte}
 use Rattle.writing.specs.Texts.{further}
 
@@ -114,8 +114,8 @@ lines_back [] h = refl
 lines_back (x ∷ xs) h = go (eqb x 10) refl (lines_back xs (ends_tail x xs h))
   where
     tail : (xs : List ℕ) → Ends (x ∷ xs) → eqb x 10 ≡ false → unlined (lines xs) ≡ xs → (ls : List (List ℕ)) → lines xs ≡ ls → unlined (onto x ls) ≡ x ∷ xs
-    tail [] h e ih ls is = let z : true ≡ false = sym (eq-eqb x 10 h) ∙ e in elim (false≢true (sym z)) [ ]
-    tail (y ∷ ys) h e ih [] is = let z : [] ≡ y ∷ ys = ap unlined (sym is) ∙ ih in let w : ◌≡◌ {A = ℕ} 0 1 = cc in absurd (omega arith)
+    tail [] h e ih ls is = absurd (cc (eq-eqb x 10 h))
+    tail (y ∷ ys) h e ih [] is = let z : [] ≡ y ∷ ys = ap unlined (sym is) ∙ ih in absurd cc
     tail (y ∷ ys) h e ih (l ∷ ls) is = ap (λ t. x ∷ t) (ap unlined (sym is) ∙ ih)
 
     go : (b : Bool) → eqb x 10 ≡ b → unlined (lines xs) ≡ xs → unlined (cond b ([] ∷ lines xs) (onto x (lines xs))) ≡ x ∷ xs
