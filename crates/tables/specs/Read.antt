@@ -34,28 +34,22 @@ mentioned (nodes.Star a) n = []
 
 -- the tables with one fact more
 abbrev pub entered : Sketch → Fact → Sketch
-entered d begin = record { tables = d.tables; mentions = d.mentions; stage = Names }
-entered d (name k s) = record {
-  tables = record { names = d.tables.names ++ record { kind = k; head = None } ∷ []; spellings = d.tables.spellings ++ s ∷ []; nodes = d.tables.nodes; bodies = d.tables.bodies; rules = d.tables.rules; rule_lines = d.tables.rule_lines };
-  mentions = d.mentions;
+entered d begin = record d { stage = Names }
+entered d (name k s) = record d {
+  tables = record d.tables { names = d.tables.names ++ record { kind = k; head = None } ∷ []; spellings = d.tables.spellings ++ s ∷ [] };
   stage = Names;
 }
-entered d (under t h) = record {
-  tables = record { names = headed d.tables.names t h; spellings = d.tables.spellings; nodes = d.tables.nodes; bodies = d.tables.bodies; rules = d.tables.rules; rule_lines = d.tables.rule_lines };
-  mentions = d.mentions;
-  stage = Unders;
-}
-entered d (node x n) = record {
-  tables = record { names = d.tables.names; spellings = d.tables.spellings; nodes = d.tables.nodes ++ x ∷ []; bodies = d.tables.bodies; rules = d.tables.rules; rule_lines = d.tables.rule_lines };
+entered d (under t h) = record d { tables = record d.tables { names = headed d.tables.names t h }; stage = Unders }
+entered d (node x n) = record d {
+  tables = record d.tables { nodes = d.tables.nodes ++ x ∷ [] };
   mentions = d.mentions ++ mentioned x n;
   stage = Nodes;
 }
-entered d (rule s b n) = record {
-  tables = record { names = d.tables.names; spellings = d.tables.spellings; nodes = d.tables.nodes; bodies = d.tables.bodies ++ b ∷ []; rules = d.tables.rules ++ s ∷ []; rule_lines = d.tables.rule_lines ++ n ∷ [] };
-  mentions = d.mentions;
+entered d (rule s b n) = record d {
+  tables = record d.tables { bodies = d.tables.bodies ++ b ∷ []; rules = d.tables.rules ++ s ∷ []; rule_lines = d.tables.rule_lines ++ n ∷ [] };
   stage = Rules;
 }
-entered d end = record { tables = d.tables; mentions = d.mentions; stage = Ended }
+entered d end = record d { stage = Ended }
 
 -- each mentioned rule is among the `count` rules; else the first node that mentions another is at fault
 abbrev pub present : ℕ → List Mention → Result (Unit {0}) TableFault

@@ -35,13 +35,10 @@ fn go_on(bytes: &[u8]) -> bool
 fn is_decimal(bytes: &[u8]) -> bool
     ensures { result ≡ is_number bytes.now }
 {
-    if bytes.is_empty() || bytes.len() > 9 {
-        return false;
+    match bytes {
+        [] | [b'0', _, ..] => false,
+        _ => bytes.len() <= 9 && are_digits(bytes),
     }
-    if bytes.len() > 1 && bytes[0] == b'0' {
-        return false;
-    }
-    are_digits(bytes)
 }
 
 /// The number that at most nine digits write.
@@ -68,8 +65,8 @@ pub(crate) fn number(bytes: &[u8]) -> Option<usize>
 pub(crate) fn is_name(bytes: &[u8]) -> bool
     ensures { result ≡ is_spelling bytes.now }
 {
-    if bytes.is_empty() || bytes.len() > 32 {
-        return false;
+    match bytes {
+        [] => false,
+        [first, ..] => bytes.len() <= 32 && begins(*first) && go_on(bytes),
     }
-    begins(bytes[0]) && go_on(bytes)
 }

@@ -6,7 +6,7 @@ ghost use Rattle.text.specs.Pieces.{before, after, whole_text};
 ghost use Rattle.text.specs.Fields.{view, seen, key, number, spelling};
 ghost use Rattle.text.specs.Cursors.{fields_left, next_field, taken, last_number, Passed, ended, none_left, line_parts};
 
-use crate::fault::LineFault;
+use crate::fault::{LineFault, ensure};
 use crate::field::Field;
 
 /// A line of the text, without its LF.
@@ -81,6 +81,7 @@ impl<'a> Line<'a> {
     }
 }
 
+// `key`, `number` and `spelling` are one method each over `take`, since a call reads best with the kind in its name.
 impl<'a> Fields<'a> {
     /// The number of its line.
     pub fn line(self) -> usize
@@ -140,11 +141,7 @@ impl<'a> Fields<'a> {
     pub fn end(self) -> Result<(), LineFault>
         ensures { result ≡ ended self.entry.line (fields_left self.entry) }
     {
-        if self.is_done() {
-            Ok(())
-        } else {
-            Err(LineFault::Form { line: self.line })
-        }
+        ensure(self.is_done(), LineFault::Form { line: self.line })
     }
 
     /// Takes the next field as a number, and refuses a line that has another field left.
