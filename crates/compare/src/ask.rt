@@ -106,7 +106,7 @@ fn tell_sheet(
             output.truncate(length);
             println!(rt; "evidence, a sheet with {records} records:")?;
             rt.stdout().write_all(output.as_slice())?;
-            let mut fresh = Register::new(rt.alloc(), register.grammar, &relation)?;
+            let mut fresh = Register::new(rt.alloc(), register.basis.grammar, &relation)?;
             match fresh.sheet(
                 output.as_slice(),
                 lent.rows.as_mut_slice(),
@@ -161,7 +161,7 @@ fn tell_verdict(
             println!(rt;
                 "verdict: EXCLUDED. {left} can send a message that {right} does not accept:"
             )?;
-            tell_message(rt, register.grammar, lent.items.as_slice(), sheet.records)?;
+            tell_message(rt, register.basis.grammar, lent.items.as_slice(), sheet.records)?;
         }
     }
     println!(rt; "rows met: {met}")?;

@@ -13,7 +13,7 @@ use member::has_hedge;
 use model::rows::{Item, Row};
 use model::sets::StateSet;
 use records::fault::CallFault;
-use records::read::{blank, read_hedge};
+use records::read::{blank, first, read_hedge};
 
 /// The answer of a membership test: whether the rule has the hedge, and how many items it has.
 #[derive(Clone, Copy)]
@@ -54,8 +54,9 @@ impl Register<'_, '_> {
             return Err(fault);
         }
         let records = read_hedge(text, self.basis.bounds().names, rows, items)?;
-        let hedge = &items[..records.min(items.len())];
-        let yes = self.basis.has(self.sets.as_mut_slice(), rule, hedge);
+        let yes = self
+            .basis
+            .has(self.sets.as_mut_slice(), rule, first(items, records));
         Ok(Membership { yes, records })
     }
 }

@@ -21,7 +21,7 @@ use model::rows::{Item, Row};
 use model::sets::StateSet;
 use model::verdict::Verdict;
 use records::fault::CallFault;
-use records::read::{blank, read_sheet};
+use records::read::{blank, first, read_sheet};
 use records::sheet::Sheet;
 use writing::write::write_sheet;
 
@@ -44,13 +44,12 @@ impl Basis<'_, '_> {
         };
         match sheet.verdict {
             Verdict::Included => {
-                let rows = &rows[..sheet.records.min(rows.len())];
                 let rules = self.grammar.tables.bodies().len();
-                judge_included(&setting, &Grounds::new(rows, ledger, rules), claim)
+                let grounds = Grounds::new(first(rows, sheet.records), ledger, rules);
+                judge_included(&setting, &grounds, claim)
             }
             Verdict::Excluded => {
-                let items = &items[..sheet.records.min(items.len())];
-                judge_excluded(&setting, sets, claim, items)
+                judge_excluded(&setting, sets, claim, first(items, sheet.records))
             }
         }
     }

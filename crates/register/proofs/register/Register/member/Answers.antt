@@ -13,10 +13,10 @@ returns c =
     let m : Machine = machine_of self.basis in
     let x = tested t m self.basis.grounded c.args.rule (length c.args.rows.now) (length c.args.items.now) c.args.text.now c.in_default.field-0
     c.bounds.result.names.now c.in_ok-records.records c.read_hedge.new.items
-    (take c.min.result c.read_hedge.new.items) c.has-yes.result
+    c.first.result.now c.has-yes.result
     c.in_default.ensures c.bounds.ensures.names c.in_ok-records.ensures.read.answered c.in_ok-records.ensures.read.items_left
-    (ap (λ j. take j c.read_hedge.new.items) c.min.ensures ∙ take_min c.in_ok-records.records c.read_hedge.new.items)
-    (λ few. c.has-yes.ensures (subst (λ j. length (take c.min.result c.read_hedge.new.items) < j) (sym (c.as_mut_slice.ensures.len ∙ self.sized.1)) few)) in
+    c.first.ensures
+    (λ few. c.has-yes.ensures (subst (λ j. length c.first.result.now < j) (sym (c.as_mut_slice.ensures.len ∙ self.sized.1)) few)) in
     record {
       result = x.result;
       rows = c.in_ok-records.ensures.rows;
