@@ -90,13 +90,8 @@ impl MetRows<'_> {
         requires name { t < names_of self.now.setting.now.covers.now }
         ensures { result ≡ derivative_item (seen self.now.setting.now) self.now.rows.now marks.now t row.now.left (distinct_pairs (seen self.now.setting.now) t row.now.right.bits) }
     {
-        if !self.setting.is_labelled(row.left, t) {
-            return None;
-        }
-        match self.setting.pairs(t, &row.right) {
-            Some(pairs) => self.of_derivatives(marks, t, row.left, &pairs),
-            None => None,
-        }
+        let pairs = self.setting.labelled_pairs(row, t)?;
+        self.of_derivatives(marks, t, row.left, &pairs)
     }
 
     // The item that refutes a row, which is not wide: that of its first either-or both of whose

@@ -91,10 +91,7 @@ impl Setting<'_> {
         requires name { t < names_of self.now.covers.now }
         ensures { Fills same_row book.old book.new (sides_of (of_name (seen self.now) row.now t)) (is_ok result) }
     {
-        if !self.is_labelled(row.left, t) {
-            return Ok(());
-        }
-        match self.pairs(t, &row.right) {
+        match self.labelled_pairs(row, t) {
             Some(pairs) => self.enter_derivatives(t, row.left, &pairs, book),
             None => Ok(()),
         }

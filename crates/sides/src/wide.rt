@@ -1,10 +1,12 @@
 // Wide inequalities: under some name that a derivative of the left covers, the right has more than
 // eight distinct pairs.
-ghost use Rattle.std.specs.Prelude.{◌≡◌, ◌&&◌, length, nat_lt};
+ghost use Rattle.std.specs.Prelude.{◌≡◌, ◌<◌, ◌&&◌, false, length, nat_lt, IfSome};
+ghost use Rattle.std.specs.Option.{is_some};
 ghost use Rattle.theory.specs.Inequality.{wide as wide_row, pairs as distinct_pairs};
 ghost use Rattle.sides.specs.Steps.{labelled_by};
-ghost use Rattle.sides.specs.View.{seen};
+ghost use Rattle.sides.specs.View.{seen, names_of};
 
+use crate::pairs::Pairs;
 use crate::setting::Setting;
 use model::rows::Row;
 
@@ -31,5 +33,20 @@ impl Setting<'_> {
         ensures { result ≡ wide_row (seen self.now) row.now }
     {
         (0..self.covers.names()).any(|t| self.is_crowded(row, t))
+    }
+
+    // The pairs on the right of a row, which is not wide, under the name t; None where no derivative
+    // of the left has a label that covers t.
+    pub fn labelled_pairs(&self, row: &Row, t: usize) -> Option<Pairs>
+        requires narrow { wide_row (seen self.now) row.now ≡ false }
+        requires name { t < names_of self.now.covers.now }
+        ensures some { is_some result ≡ labelled_by (seen self.now) row.now.left t }
+        ensures all { IfSome result (λ pairs. pairs.items ≡ distinct_pairs (seen self.now) t row.now.right.bits) }
+    {
+        if self.is_labelled(row.left, t) {
+            self.pairs(t, &row.right)
+        } else {
+            None
+        }
     }
 }
