@@ -1,5 +1,6 @@
 -- The tests that an entry of a table is put to.
 use Rattle.std.specs.Prelude.{ℕ, Bool, true, false, cond, not, ◌&&◌, ◌||◌, List, [], ◌∷◌, length, is_some, None, Ok, Err, Result, nat_lt, slice_index_or}
+use Rattle.std.specs.List.{list_any}
 use Rattle.std.specs.Str.{bytes_eq}
 use Rattle.model.specs.declared.names.Kind.{Kind}
 use Rattle.model.specs.declared.names.Kind.TheVariants as kind
@@ -25,8 +26,7 @@ place ok n = cond ok (Ok tt) (Err (Place n))
 
 -- whether the spelling is among those
 abbrev pub has : List ℕ → List (List ℕ) → Bool
-has s [] = false
-has s (x ∷ xs) = bytes_eq x s || has s xs
+has s xs = list_any (λ x. bytes_eq x s) xs
 
 -- the spelling is new, else a fault at line n
 abbrev pub fresh : ℕ → List ℕ → List (List ℕ) → Result (Unit {0}) LineFault

@@ -1,6 +1,7 @@
 -- A line that is written of a lawful entry is accepted and gives that entry.
-use Rattle.std.proofs.Common.{◌≡◌, ℕ, ◌<◌, true, false, cond, not, eqb, ltb, List, [], ◌∷◌, ◌++◌, length, Ok, Err, codes, decimal, Result, refl, ap, ◌∙◌}
+use Rattle.std.proofs.Common.{◌≡◌, ℕ, ◌<◌, true, false, cond, ltb, List, [], ◌∷◌, ◌++◌, length, Ok, Err, codes, decimal, Result, refl, ap, ◌∙◌}
 use Rattle.std.specs.List.{AllByRecursion}
+use Rattle.std.proofs.lemmas.List.Folds.{list_all-append}
 use Rattle.std.proofs.lemmas.Bool.{and_parts, and_from, lt-ltb, eq-eqb}
 use Rattle.model.specs.declared.names.Kind.{Kind}
 use Rattle.model.specs.declared.names.Kind.TheVariants as kinds
@@ -69,8 +70,7 @@ word_lacks keys.Rule = (refl, refl)
 word_lacks keys.End = (refl, refl)
 
 lacks_append : (m : ℕ) (xs ys : List ℕ) → lacks m xs ≡ true → lacks m ys ≡ true → lacks m (xs ++ ys) ≡ true
-lacks_append m [] ys h g = g
-lacks_append m (x ∷ xs) ys h g = let p = and_parts (not (eqb x m)) (lacks m xs) h in and_from _ _ p.0 (lacks_append m xs ys p.1 g)
+lacks_append m xs ys h g = list_all-append _ xs ys ∙ and_from _ _ h g
 
 lacks_commas : (fs : List (List ℕ)) → AllByRecursion Clean fs → lacks 10 (commas fs) ≡ true
 lacks_commas [] h = refl

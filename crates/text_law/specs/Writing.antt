@@ -1,5 +1,6 @@
 -- How a text of lines is written.
-use Rattle.std.specs.Prelude.{ℕ, Bool, true, not, ◌&&◌, List, [], ◌∷◌, ◌++◌, ◌==◌}
+use Rattle.std.specs.List.{list_all}
+use Rattle.std.specs.Prelude.{ℕ, Bool, not, List, [], ◌∷◌, ◌++◌, ◌==◌}
 
 -- lines, each with its LF
 abbrev pub written : List (List ℕ) → List ℕ
@@ -18,5 +19,4 @@ keyed k fs = k ++ 61 ∷ commas fs
 
 -- the byte is not among those
 abbrev pub lacks : ℕ → List ℕ → Bool
-lacks m [] = true
-lacks m (x ∷ xs) = not (x == m) && lacks m xs
+lacks m xs = list_all (λ x. not (x == m)) xs
