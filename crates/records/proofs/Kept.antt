@@ -3,7 +3,8 @@ use Rattle.std.proofs.Common.{◌≡◌, ℕ, suc, ◌+◌, ◌-◌, ◌*◌, �
 use native.Mathlib.Nat.{div-eq_of_lt}
 use lib.Bits.{bit_or, or_shifted_r}
 use Rattle.std.specs.List.{AllByRecursion}
-use Rattle.std.proofs.lemmas.Nat.{pow_pos, pow_below}
+use Rattle.std.proofs.Math.Pow.{pow_mono}
+use Rattle.std.proofs.lemmas.Nat.{pow_pos}
 use Rattle.std.proofs.ByRecursion.{All-push}
 use Rattle.std.proofs.lemmas.List.{length_push, get_or_push, get_or_append_left, set_at, append_assoc}
 use Rattle.std.proofs.lemmas.Bool.{and_parts, ltb-true, leb-true, lt-ltb, eqb-true, cond-true, cases_lt}
@@ -32,8 +33,7 @@ use Rattle.records.proofs.Chained.{made_then, made_cond, made_either, cond_ok, m
 
 -- a number below a power of two is below each higher one
 pub pow_up : (s m n : ℕ) → s < 2 ^ m → m ≤ n → s < 2 ^ n
-pow_up s m n h le =
-    ⊎_elim (λ (l : m < n). omega (arith, pow_below m n l)) (λ (l : n ≤ m). let e : m ≡ n = omega arith in subst (λ k. s < 2 ^ k) e h) (cases_lt m n)
+pow_up s m n h le = omega (arith, pow_mono le)
 
 -- a state above all those of a set is added to the set's number
 pub insert_high : (s low q : ℕ) → s < 2 ^ low → low ≤ q → q < 128 → insert s q ≡ 2 ^ q + s
