@@ -1,5 +1,6 @@
 -- The work on derivatives as it goes on.
-use Rattle.std.proofs.Common.{◌≡◌, ℕ, ◌+◌, ◌*◌, ◌<◌, ◌≤◌, Bool, true, false, cond, List, [], ◌∷◌, ◌++◌, map, length, get_or, drop, set, Some, None, vec_items, sym, refl, ap, ◌∙◌, subst, ap₂, append_assoc, append-nil, arith}
+use Rattle.std.proofs.Common.{◌≡◌, ℕ, ◌+◌, ◌*◌, ◌<◌, ◌≤◌, Bool, true, false, cond, ltb, List, [], ◌∷◌, ◌++◌, map, length, get_or, drop, set, Some, None, vec_items, sym, refl, ap, ◌∙◌, subst, ap₂, append_assoc, append-nil, ⊎_elim, arith}
+use Rattle.std.specs.List.{slice_get}
 use Rattle.std.proofs.lemmas.List.{length-append, drop_at, map-append}
 use Rattle.std.proofs.lemmas.Bool.{cond-true, cond-false, lt-ltb}
 use Rattle.model.specs.declared.nodes.Node.{Node}
@@ -22,7 +23,7 @@ use Rattle.states.specs.declared.nullable.Expressions.{Expressions}
 use Rattle.states.specs.Memo.{notes}
 use Rattle.states.specs.Spans.{Inside, told, Longer, Finds, Spans}
 use Rattle.states.specs.Derive.{nodes_of, bodies_of, found_of, Goes, Gives, Went, both, in_turn, JoinedTo}
-use Rattle.states.proofs.Nullables.{parts_at, here}
+use Rattle.states.proofs.Nullables.{parts_at, here, body_none}
 use Rattle.states.proofs.Memos.{notes_all, notes_at, notes_set}
 
 -- lists that were added to
@@ -241,6 +242,19 @@ pub went_rule : (w new : Work) (r i k m : ℕ) (s : Span) → i < length (nodes_
 went_rule w new r i k m s lt is less at =
     gives_as w new _ _ s
     (ap (ders_at (nodes_of w) (bodies_of w) k) at ∙ sym (step w r i (Rule k) lt is ∙ cond-true _ _ _ (lt-ltb k r less)))
+
+pub went_missing : (w : Work) (r i k : ℕ) (s : Span) → i < length (nodes_of w) → get_or (nodes_of w) i Nothing ≡ Rule k →
+    None ≡ cond (ltb k r) (slice_get (bodies_of w) k) None → (s.from ≡ 0) × (s.to ≡ 0) → Went w w r i s
+went_missing w r i k s lt is none = went_none w r i s (Rule k) lt is (⊎_elim
+    (λ (unknown : ltb k r ≡ false). cond-false _ _ _ unknown)
+    (λ (missing : body_at (bodies_of w) k ≡ 512).
+    ap (λ b. cond (ltb k r) (ders_at (nodes_of w) (bodies_of w) k b) []) missing
+    ∙ ap (λ x. cond (ltb k r) x []) (ders_past (nodes_of w) (bodies_of w) k 512 w.expressions.fine.0) ∙ same (ltb k r))
+    (body_none (bodies_of w) k r none))
+  where
+    same : (t : Bool) → Path (List Derived) (cond t [] []) []
+    same true = refl
+    same false = refl
 
 pub went_union : (w a b c : Work) (r i n k : ℕ) (x y s : Span) → i < length (nodes_of w) → get_or (nodes_of w) i Nothing ≡ Union n k →
     Went w a r n x → Went a b r k y → Gives b c (both b x y) s → Went w c r i s

@@ -1,3 +1,4 @@
+mod Gets
 mod Memos
 mod Tests
 mod Reading

@@ -1,12 +1,14 @@
 -- The steps of nullability.
-use Rattle.std.proofs.Common.{◌≡◌, ℕ, ◌+◌, ◌*◌, ◌<◌, Bool, true, false, ◌&&◌, ◌||◌, List, length, get_or, set, Some, vec_items, sym, ap, ◌∙◌, subst, ap₂, arith}
-use Rattle.std.proofs.lemmas.List.{get_or_default}
+use Rattle.std.proofs.Common.{◌≡◌, ℕ, ◌+◌, ◌*◌, ◌<◌, Bool, true, false, cond, ltb, ◌&&◌, ◌||◌, List, length, get_or, set, Some, None, vec_items, sym, refl, ap, ◌∙◌, subst, ap₂, ◌⊎◌, inl, inr, ⊎_elim, arith}
+use Rattle.std.proofs.lemmas.List.{get_or_default, get_or_past}
+use Rattle.std.specs.List.{slice_get}
+use Rattle.std.proofs.lemmas.Option.{get_or_from_slice_get, slice_get_cases}
 use Rattle.model.specs.declared.nodes.Node.{Node}
-use Rattle.model.specs.declared.nodes.Node.TheVariants.{Nothing}
-use Rattle.expressions.specs.Numbers.{null_at, null_node, earlier}
-use Rattle.std.proofs.lemmas.Bool.{cond-true, lt-ltb}
+use Rattle.model.specs.declared.nodes.Node.TheVariants.{Nothing, Rule}
+use Rattle.expressions.specs.Numbers.{null_at, null_node, earlier, body_at}
+use Rattle.std.proofs.lemmas.Bool.{cond-true, cond-false, lt-ltb, ltb-true}
 use Rattle.expressions.specs.Fine.{PartsBelow, Founded}
-use Rattle.expressions.proofs.Nulls.{null_step}
+use Rattle.expressions.proofs.Nulls.{null_past, null_step}
 use Rattle.states.specs.Memo.{notes, Says, Sound}
 use Rattle.states.proofs.Memos.{notes_set}
 use Rattle.states.specs.declared.grammar.Rules.{Rules}
@@ -63,6 +65,35 @@ by_node old v v' r i b b' x n p q nodes rules lt at is e =
       value = q ∙ e ∙ sym (null_step (vec_items old.nodes) (vec_items old.rules.bodies) r i lt old.fine.0
           ∙ ap (null_node (vec_items old.nodes) (vec_items old.rules.bodies) r i) read);
     }
+
+-- the body of a rule below r
+pub body_is : (bodies : List ℕ) (k r b : ℕ) → Some b ≡ cond (ltb k r) (slice_get bodies k) None → (k < r) × (b ≡ body_at bodies k)
+body_is bodies k r b = go (ltb k r) refl
+  where
+    go : (t : Bool) → ltb k r ≡ t → Some b ≡ cond t (slice_get bodies k) None → (k < r) × (b ≡ body_at bodies k)
+    go true e at = (ltb-true k r e, sym (get_or_from_slice_get bodies k b 512 (sym at)))
+    go false e at = absurd cc
+
+-- a rule that has none is unknown, or has a missing body
+pub body_none : (bodies : List ℕ) (k r : ℕ) → None ≡ cond (ltb k r) (slice_get bodies k) None → (ltb k r ≡ false) ⊎ (body_at bodies k ≡ 512)
+body_none bodies k r = go (ltb k r) refl
+  where
+    go : (t : Bool) → ltb k r ≡ t → None ≡ cond t (slice_get bodies k) None → (ltb k r ≡ false) ⊎ (body_at bodies k ≡ 512)
+    go false e at = inl e
+    go true e at = inr (⊎_elim (λ p. absurd (let own = p.2 in cc)) (λ p. get_or_past bodies k 512 p.0) (slice_get_cases bodies k).1)
+
+pub null_missing : (e : Expressions) (r i k : ℕ) → None ≡ cond (ltb k r) (slice_get (vec_items e.rules.bodies) k) None →
+    false ≡ null_node (vec_items e.nodes) (vec_items e.rules.bodies) r i (Rule k)
+null_missing e r i k at = ⊎_elim
+    (λ (unknown : ltb k r ≡ false). sym (cond-false _ _ _ unknown))
+    (λ (missing : body_at (vec_items e.rules.bodies) k ≡ 512).
+    sym (ap (λ b. cond (ltb k r) (null_in e k b) false) missing
+    ∙ ap (λ x. cond (ltb k r) x false) (null_past (vec_items e.nodes) (vec_items e.rules.bodies) k 512 e.fine.0) ∙ same (ltb k r)))
+    (body_none (vec_items e.rules.bodies) k r at)
+  where
+    same : (t : Bool) → cond t false false ≡ false
+    same true = refl
+    same false = refl
 
 -- nullability of an earlier part
 pub at_part : (old new : Expressions) (r i m : ℕ) (b : Bool) → new.nodes ≡ old.nodes → new.rules ≡ old.rules →

@@ -69,8 +69,8 @@ fn states_of(heap: Global, work: &mut Work, numbers: &mut Vec<usize>) -> Result<
 {
     let mut states = Vec::new(heap);
     let mut total = 0;
-    while states.len() < numbers.len() && states.len() < STATES {
-        let state = state_of(heap, work, numbers, numbers[states.len()])?;
+    while let Some(node) = numbers.get(states.len()).copied() {
+        let state = state_of(heap, work, numbers, node)?;
         let more = state.derivatives.len();
         if more > DERIVATIVES - total {
             return Err(Limit::TooLarge);

@@ -47,7 +47,7 @@ pub struct Work {
 }
 
 impl Work {
-    ghost use Rattle.std.specs.Prelude.{◌≡◌, ◌<◌, IfOk, map};
+    ghost use Rattle.std.specs.Prelude.{◌≡◌, ◌<◌, IfOk, IfSome, None, map};
     ghost use Rattle.expressions.specs.Numbers.{null_at};
     ghost use Rattle.expressions.specs.Derived.{as_trees, part};
     ghost use Rattle.states.specs.Spans.{Inside};
@@ -124,15 +124,24 @@ impl Work {
         self.keep(list.as_slice())
     }
 
+    // Where the derivatives of a node are, if they are known: there is no such node, or they were
+    // found before.
+    fn found_before(&self, rule: usize, node: usize) -> Option<Span>
+        ensures known { IfSome result (λ s. Went self.now self.now rule node s) }
+        ensures new { result ≡ None → node < length (nodes_of self.now) }
+    {
+        if node >= self.expressions.nodes.len() {
+            return Some(Span::default());
+        }
+        self.spans.get(rule, node)
+    }
+
     // The derivatives of a node, where only the rules below `rule` are known. A mention is followed
     // into that rule's body.
     pub fn derive(&mut self, heap: Global, rule: usize, node: usize) -> Result<Span, Limit>
         ensures { IfOk result (λ s. Went self.old self.new rule node s) }
     {
-        if node >= self.expressions.nodes.len() {
-            return Ok(Span::default());
-        }
-        if let Some(span) = self.spans.get(rule, node) {
+        if let Some(span) = self.found_before(rule, node) {
             return Ok(span);
         }
         let empty = self.expressions.rules.empty;
@@ -140,14 +149,10 @@ impl Work {
             Node::Nothing | Node::Empty => Span::default(),
             Node::Simple(n) => self.keep(&[(n, empty, empty)])?,
             Node::Element(n, c) => self.keep(&[(n, c, empty)])?,
-            Node::Rule(k) => {
-                if k < rule {
-                    let body = self.expressions.rules.body(k);
-                    self.derive(heap, k, body)?
-                } else {
-                    Span::default()
-                }
-            }
+            Node::Rule(k) => match self.expressions.rules.body_below(k, rule) {
+                Some(body) => self.derive(heap, k, body)?,
+                None => Span::default(),
+            },
             Node::Union(a, b) => {
                 let left = self.derive(heap, rule, a)?;
                 let right = self.derive(heap, rule, b)?;

@@ -1,10 +1,10 @@
 // The expressions of a grammar: its nodes without repeats, `empty` and a mention of each rule.
-ghost use Rattle.std.specs.Prelude.{◌≡◌, ℕ, ◌<◌, ◌≤◌, List, [], map, length, get_or, IfOk, vec_len, slice_index_or};
+ghost use Rattle.std.specs.List.{slice_get};
+ghost use Rattle.std.specs.Prelude.{cond, nat_lt, None, ◌≡◌, ℕ, ◌<◌, ◌≤◌, List, [], map, length, get_or, IfOk, vec_len, slice_index_or};
 ghost use Rattle.theory.specs.Language.{none};
 ghost use Rattle.theory.specs.Tree.{trees, of_node};
 ghost use Rattle.expressions.specs.Fine.{Fine, Below, Grows, shown};
 ghost use Rattle.states.specs.Read.{Numbered, Moved, StandFor, mentions, Read};
-ghost use Rattle.expressions.specs.Numbers.{body_at};
 
 use crate::entering::enter;
 use crate::error::Limit;
@@ -31,11 +31,15 @@ pub struct Grammar {
 }
 
 impl Rules {
-    // The number of rule k's body.
-    pub fn body(&self, k: usize) -> usize
-        ensures { result ≡ body_at self.now.bodies.items k }
+    // The number of rule k's body, if the rule is one of the first `rule`.
+    pub fn body_below(&self, k: usize, rule: usize) -> Option<usize>
+        ensures { result ≡ cond (nat_lt k rule) (slice_get self.now.bodies.items k) None }
     {
-        self.bodies.get(k).copied().unwrap_or(EXPRESSIONS)
+        if k < rule {
+            self.bodies.get(k).copied()
+        } else {
+            None
+        }
     }
 }
 

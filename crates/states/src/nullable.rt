@@ -57,10 +57,10 @@ impl Expressions {
         let answer = match self.nodes[node] {
             Node::Nothing | Node::Simple(_) | Node::Element(_, _) => false,
             Node::Empty | Node::Star(_) => true,
-            Node::Rule(k) => {
-                let body = self.rules.body(k);
-                k < rule && self.nullable(k, body)
-            }
+            Node::Rule(k) => match self.rules.body_below(k, rule) {
+                Some(body) => self.nullable(k, body),
+                None => false,
+            },
             Node::Union(a, b) => {
                 let left = self.nullable(rule, a);
                 let right = self.nullable(rule, b);

@@ -98,6 +98,7 @@ impl Expressions {
 
     // Whether the recursion of rule k is lawful.
     fn is_lawful(&mut self, heap: Global, k: usize) -> Result<bool, Limit>
+        requires { k < vec_len self.old.rules.bodies }
         ensures value { IfOk result (λ b. b ≡ passes self.old.nodes.items self.old.rules.bodies.items k) }
         ensures nodes { self.new.nodes ≡ self.old.nodes }
         ensures rules { self.new.rules ≡ self.old.rules }
@@ -107,7 +108,8 @@ impl Expressions {
             let ways = self.next_ways(table.as_slice(), k);
             table.push(ways)?;
         }
-        Ok(!Ways::at(table.as_slice(), self.rules.body(k)).free)
+        let body = self.rules.bodies[k];
+        Ok(!Ways::at(table.as_slice(), body).free)
     }
 
     // The first rule whose recursion is not lawful.

@@ -1,24 +1,15 @@
 use Rattle.std.proofs.Common.{◌<◌, length, sym, refl, subst, ⊎_elim, arith}
-use Rattle.std.proofs.lemmas.Bool.{cond-false, le-ltb}
 use Rattle.model.specs.declared.nodes.Node.TheVariants.{Nothing, Empty, Simple, Rule, Element, Union, Seq, Star}
 use Rattle.expressions.proofs.Ranks.{part_falls, rule_falls}
 use Rattle.states.specs.Spans.{Spans}
 use Rattle.states.specs.Derive.{nodes_of, bodies_of, found_of, Went}
-use Rattle.states.proofs.Nullables.{read_at, parts_at, here}
-use Rattle.states.proofs.Going.{Then, into, inside_goes, inside_none, long_goes, leaf_in, went_past, went_known, went_none, went_simple, went_element, went_rule, went_union, then_some, then_none, went_seq, went_star, went_noted, goes_on}
+use Rattle.states.proofs.Nullables.{read_at, parts_at, here, body_is}
+use Rattle.states.proofs.Going.{Then, into, inside_goes, inside_none, long_goes, leaf_in, went_none, went_simple, went_element, went_rule, went_missing, went_union, then_some, then_none, went_seq, went_star, went_noted, goes_on}
 use Rattle.states.proofs.derive.Work.+derive.Goals as goal
-use Rattle.states.proofs.derive.Work.+derive.Goals.{in-Nothing, in-Simple+in_ok-span-in-Simple, in-Element+in_ok-span-in-Element, in-Rule+then-k-rule+in_ok-span-in-Rule, in-Rule+else-k-rule, in-Union+in_ok-left-in-Union+in_ok-right-in-Union+in_ok-span-in-Union, in-Seq+in_ok-first-in-Seq+in_ok-span-in-Seq, then-nullable+in_ok-then-in-Seq, else-nullable, in-Star+in_ok-first-in-Star+in_ok-span-in-Star}
-
-pub returns-then-node-len : goal.returns-then-node-len
-returns-then-node-len t c =
-    let ok = c.args.self.now.expressions.nodes.ok.0 in
-    went_past c.args.self.now c.args.rule c.args.node c.default.result (omega arith) c.default.ensures
+use Rattle.states.proofs.derive.Work.+derive.Goals.{in-Nothing, in-Simple+in_ok-span-in-Simple, in-Element+in_ok-span-in-Element, in-Rule+in-Some-body_below+in_ok-span-in-Some-body_below, in-Rule+in-None, in-Union+in_ok-left-in-Union+in_ok-right-in-Union+in_ok-span-in-Union, in-Seq+in_ok-first-in-Seq+in_ok-span-in-Seq, then-nullable+in_ok-then-in-Seq, else-nullable, in-Star+in_ok-first-in-Star+in_ok-span-in-Star}
 
 pub returns-in-Some : goal.returns-in-Some
-returns-in-Some t c =
-    let ok = c.args.self.now.expressions.nodes.ok.0 in
-    let few = c.args.self.now.expressions.fine.0 in
-    went_known c.args.self.now c.args.rule c.args.node c.in-Some.span (omega arith) c.in-Some.ensures
+returns-in-Some t c = c.in-Some.ensures.known
 
 pub keep-requires : goal.keep-requires
 keep-requires t c =
@@ -28,58 +19,53 @@ keep-requires t c =
 pub keep-requires-in-Element : goal.keep-requires-in-Element
 keep-requires-in-Element t c =
     let w = c.args.self.now in
-    let ok = w.expressions.nodes.ok.0 in
-    let lt : c.args.node < length (nodes_of c.args.self.now) = omega arith in
+    let lt : c.args.node < length (nodes_of c.args.self.now) = c.found_before.ensures.new c.in_default.is in
     let below = parts_at w.expressions c.args.node (Element c.in-Element.n c.in-Element.c) lt
     (read_at w.expressions c.args.node c.index.result.now (Element c.in-Element.n c.in-Element.c) lt c.index.ensures c.in-Element.is) in
     leaf_in w c.in-Element.n c.in-Element.c (omega arith)
 
 pub derive-requires : goal.derive-requires
 derive-requires t c =
-    (rule_falls t c.args.rule c.in-Rule.k c.args.node c.body-body.result c.decreases c.if-k-rule.true, tt)
+    let at = body_is (bodies_of c.args.self.now) c.in-Rule.k c.args.rule c.in-Some-body_below.body c.in-Some-body_below.ensures in
+    (rule_falls t c.args.rule c.in-Rule.k c.args.node c.in-Some-body_below.body c.decreases at.0, tt)
 
 pub derive-requires-in-Union : goal.derive-requires-in-Union
 derive-requires-in-Union t c =
     let e = c.args.self.now.expressions in
-    let ok = c.args.self.now.expressions.nodes.ok.0 in
     let few = c.args.self.now.expressions.fine.0 in
-    let lt : c.args.node < length (nodes_of c.args.self.now) = omega arith in
+    let lt : c.args.node < length (nodes_of c.args.self.now) = c.found_before.ensures.new c.in_default.is in
     let below = parts_at e c.args.node (Union c.in-Union.a c.in-Union.b) lt (read_at e c.args.node c.index.result.now (Union c.in-Union.a c.in-Union.b) lt c.index.ensures c.in-Union.is) in
     (part_falls t c.args.rule c.args.node c.in-Union.a c.in-Union.a c.decreases (omega arith) (here c.args.node c.in-Union.a below.0), tt)
 
 pub derive-requires-in-Union-2 : goal.derive-requires-in-Union-2
 derive-requires-in-Union-2 t c =
     let e = c.args.self.now.expressions in
-    let ok = c.args.self.now.expressions.nodes.ok.0 in
     let few = c.args.self.now.expressions.fine.0 in
-    let lt : c.args.node < length (nodes_of c.args.self.now) = omega arith in
+    let lt : c.args.node < length (nodes_of c.args.self.now) = c.found_before.ensures.new c.in_default.is in
     let below = parts_at e c.args.node (Union c.in-Union.a c.in-Union.b) lt (read_at e c.args.node c.index.result.now (Union c.in-Union.a c.in-Union.b) lt c.index.ensures c.in-Union.is) in
     (part_falls t c.args.rule c.args.node c.in-Union.b c.in-Union.b c.decreases (omega arith) (here c.args.node c.in-Union.b below.1), tt)
 
 pub derive-requires-in-Seq : goal.derive-requires-in-Seq
 derive-requires-in-Seq t c =
     let e = c.args.self.now.expressions in
-    let ok = c.args.self.now.expressions.nodes.ok.0 in
     let few = c.args.self.now.expressions.fine.0 in
-    let lt : c.args.node < length (nodes_of c.args.self.now) = omega arith in
+    let lt : c.args.node < length (nodes_of c.args.self.now) = c.found_before.ensures.new c.in_default.is in
     let below = parts_at e c.args.node (Seq c.in-Seq.a c.in-Seq.b) lt (read_at e c.args.node c.index.result.now (Seq c.in-Seq.a c.in-Seq.b) lt c.index.ensures c.in-Seq.is) in
     (part_falls t c.args.rule c.args.node c.in-Seq.a c.in-Seq.a c.decreases (omega arith) (here c.args.node c.in-Seq.a below.0), tt)
 
 pub derive-requires-then-nullable : goal.derive-requires-then-nullable
 derive-requires-then-nullable t c =
     let e = c.args.self.now.expressions in
-    let ok = c.args.self.now.expressions.nodes.ok.0 in
     let few = c.args.self.now.expressions.fine.0 in
-    let lt : c.args.node < length (nodes_of c.args.self.now) = omega arith in
+    let lt : c.args.node < length (nodes_of c.args.self.now) = c.found_before.ensures.new c.in_default.is in
     let below = parts_at e c.args.node (Seq c.in-Seq.a c.in-Seq.b) lt (read_at e c.args.node c.index.result.now (Seq c.in-Seq.a c.in-Seq.b) lt c.index.ensures c.in-Seq.is) in
     (part_falls t c.args.rule c.args.node c.in-Seq.b c.in-Seq.b c.decreases (omega arith) (here c.args.node c.in-Seq.b below.1), tt)
 
 pub derive-requires-in-Star : goal.derive-requires-in-Star
 derive-requires-in-Star t c =
     let e = c.args.self.now.expressions in
-    let ok = c.args.self.now.expressions.nodes.ok.0 in
     let few = c.args.self.now.expressions.fine.0 in
-    let lt : c.args.node < length (nodes_of c.args.self.now) = omega arith in
+    let lt : c.args.node < length (nodes_of c.args.self.now) = c.found_before.ensures.new c.in_default.is in
     let below = parts_at e c.args.node (Star c.in-Star.a) lt (read_at e c.args.node c.index.result.now (Star c.in-Star.a) lt c.index.ensures c.in-Star.is) in
     (part_falls t c.args.rule c.args.node c.in-Star.a c.in-Star.a c.decreases (omega arith) (here c.args.node c.in-Star.a below), tt)
 
@@ -95,8 +81,7 @@ pub of_first-requires : goal.of_first-requires
 of_first-requires t c =
     let w = c.args.self.now in
     let i = c.args.node in
-    let ok = w.expressions.nodes.ok.0 in
-    let lt : c.args.node < length (nodes_of c.args.self.now) = omega arith in
+    let lt : c.args.node < length (nodes_of c.args.self.now) = c.found_before.ensures.new c.in_default.is in
     let a = c.derive-in-Seq.new.self in
     let is = read_at w.expressions i c.index.result.now (Seq c.in-Seq.a c.in-Seq.b) lt c.index.ensures c.in-Seq.is in
     let below = parts_at w.expressions i (Seq c.in-Seq.a c.in-Seq.b) lt is in
@@ -121,7 +106,7 @@ of_first-requires t c =
 
 pub of_first-requires-in-Star : goal.of_first-requires-in-Star
 of_first-requires-in-Star t c =
-    let ok = c.args.self.now.expressions.nodes.ok.0 in
+    let lt : c.args.node < length (nodes_of c.args.self.now) = c.found_before.ensures.new c.in_default.is in
     let a = c.derive-in-Star.new.self in
     let long = long_goes c.args.self.now a c.in_ok-first-in-Star.ensures.goes in
     record {
@@ -135,8 +120,7 @@ invariant_of-self t c =
     let w = c.args.self.now in
     let r = c.args.rule in
     let i = c.args.node in
-    let ok = w.expressions.nodes.ok.0 in
-    let lt : c.args.node < length (nodes_of c.args.self.now) = omega arith in
+    let lt : c.args.node < length (nodes_of c.args.self.now) = c.found_before.ensures.new c.in_default.is in
     let x = c.index.result.now in
     let now = c.match-index.self in
     let span = c.match-index.span in
@@ -152,12 +136,14 @@ invariant_of-self t c =
       | in-Element+in_ok-span-in-Element u ↦ into w now u.keep-in-Element.new.self r i span u.in_ok-span-in-Element.span u.self-is u.span-is
           (went_element w u.keep-in-Element.new.self r i u.in-Element.n u.in-Element.c u.in_ok-span-in-Element.span lt
           (read_at w.expressions i x (Element u.in-Element.n u.in-Element.c) lt c.index.ensures u.in-Element.is) u.in_ok-span-in-Element.ensures)
-      | in-Rule+then-k-rule+in_ok-span-in-Rule u ↦ into w now u.derive.new.self r i span u.in_ok-span-in-Rule.span u.self-is u.span-is
-          (went_rule w u.derive.new.self r i u.in-Rule.k u.body-body.result u.in_ok-span-in-Rule.span lt
-          (read_at w.expressions i x (Rule u.in-Rule.k) lt c.index.ensures u.in-Rule.is) u.if-k-rule.true u.body-body.ensures u.in_ok-span-in-Rule.ensures)
-      | in-Rule+else-k-rule u ↦ into w now w r i span u.default-else-k-rule.result u.self-is u.span-is
-          (went_none w r i u.default-else-k-rule.result (Rule u.in-Rule.k) lt (read_at w.expressions i x (Rule u.in-Rule.k) lt c.index.ensures u.in-Rule.is)
-          (cond-false _ _ _ (le-ltb u.in-Rule.k r u.if-k-rule.false)) u.default-else-k-rule.ensures)
+      | in-Rule+in-Some-body_below+in_ok-span-in-Some-body_below u ↦
+          let at = body_is (bodies_of w) u.in-Rule.k r u.in-Some-body_below.body u.in-Some-body_below.ensures in
+          into w now u.derive.new.self r i span u.in_ok-span-in-Some-body_below.span u.self-is u.span-is
+          (went_rule w u.derive.new.self r i u.in-Rule.k u.in-Some-body_below.body u.in_ok-span-in-Some-body_below.span lt
+          (read_at w.expressions i x (Rule u.in-Rule.k) lt c.index.ensures u.in-Rule.is) at.0 at.1 u.in_ok-span-in-Some-body_below.ensures)
+      | in-Rule+in-None u ↦ into w now w r i span u.default.result u.self-is u.span-is
+          (went_missing w r i u.in-Rule.k u.default.result lt (read_at w.expressions i x (Rule u.in-Rule.k) lt c.index.ensures u.in-Rule.is)
+          u.in-None.ensures u.default.ensures)
       | in-Union+in_ok-left-in-Union+in_ok-right-in-Union+in_ok-span-in-Union u ↦
           into w now u.of_union.new.self r i span u.in_ok-span-in-Union.span u.self-is u.span-is
           (went_union w u.derive-in-Union.new.self u.derive-in-Union-2.new.self u.of_union.new.self r i u.in-Union.a u.in-Union.b u.in_ok-left-in-Union.left u.in_ok-right-in-Union.right u.in_ok-span-in-Union.span lt
@@ -198,8 +184,7 @@ returns t c =
     let w = c.args.self.now in
     let r = c.args.rule in
     let i = c.args.node in
-    let ok = w.expressions.nodes.ok.0 in
-    let lt : c.args.node < length (nodes_of c.args.self.now) = omega arith in
+    let lt : c.args.node < length (nodes_of c.args.self.now) = c.found_before.ensures.new c.in_default.is in
     let x = c.index.result.now in
     let now = c.match-index.self in
     let span = c.match-index.span in
@@ -215,12 +200,14 @@ returns t c =
       | in-Element+in_ok-span-in-Element u ↦ into w now u.keep-in-Element.new.self r i span u.in_ok-span-in-Element.span u.self-is u.span-is
           (went_element w u.keep-in-Element.new.self r i u.in-Element.n u.in-Element.c u.in_ok-span-in-Element.span lt
           (read_at w.expressions i x (Element u.in-Element.n u.in-Element.c) lt c.index.ensures u.in-Element.is) u.in_ok-span-in-Element.ensures)
-      | in-Rule+then-k-rule+in_ok-span-in-Rule u ↦ into w now u.derive.new.self r i span u.in_ok-span-in-Rule.span u.self-is u.span-is
-          (went_rule w u.derive.new.self r i u.in-Rule.k u.body-body.result u.in_ok-span-in-Rule.span lt
-          (read_at w.expressions i x (Rule u.in-Rule.k) lt c.index.ensures u.in-Rule.is) u.if-k-rule.true u.body-body.ensures u.in_ok-span-in-Rule.ensures)
-      | in-Rule+else-k-rule u ↦ into w now w r i span u.default-else-k-rule.result u.self-is u.span-is
-          (went_none w r i u.default-else-k-rule.result (Rule u.in-Rule.k) lt (read_at w.expressions i x (Rule u.in-Rule.k) lt c.index.ensures u.in-Rule.is)
-          (cond-false _ _ _ (le-ltb u.in-Rule.k r u.if-k-rule.false)) u.default-else-k-rule.ensures)
+      | in-Rule+in-Some-body_below+in_ok-span-in-Some-body_below u ↦
+          let at = body_is (bodies_of w) u.in-Rule.k r u.in-Some-body_below.body u.in-Some-body_below.ensures in
+          into w now u.derive.new.self r i span u.in_ok-span-in-Some-body_below.span u.self-is u.span-is
+          (went_rule w u.derive.new.self r i u.in-Rule.k u.in-Some-body_below.body u.in_ok-span-in-Some-body_below.span lt
+          (read_at w.expressions i x (Rule u.in-Rule.k) lt c.index.ensures u.in-Rule.is) at.0 at.1 u.in_ok-span-in-Some-body_below.ensures)
+      | in-Rule+in-None u ↦ into w now w r i span u.default.result u.self-is u.span-is
+          (went_missing w r i u.in-Rule.k u.default.result lt (read_at w.expressions i x (Rule u.in-Rule.k) lt c.index.ensures u.in-Rule.is)
+          u.in-None.ensures u.default.ensures)
       | in-Union+in_ok-left-in-Union+in_ok-right-in-Union+in_ok-span-in-Union u ↦
           into w now u.of_union.new.self r i span u.in_ok-span-in-Union.span u.self-is u.span-is
           (went_union w u.derive-in-Union.new.self u.derive-in-Union-2.new.self u.of_union.new.self r i u.in-Union.a u.in-Union.b u.in_ok-left-in-Union.left u.in_ok-right-in-Union.right u.in_ok-span-in-Union.span lt

@@ -1,5 +1,5 @@
-use Rattle.std.proofs.Common.{◌≡◌, ◌<◌, ◌≤◌, Bool, true, false, ltb, length, vec_items, sym, refl, ap, ◌∙◌, subst, ⊎_elim, arith}
-use Rattle.std.proofs.lemmas.Bool.{cond-true, cond-false, lt-ltb, le-ltb}
+use Rattle.std.proofs.Common.{◌≡◌, ◌<◌, ◌≤◌, Bool, true, false, length, vec_items, sym, refl, ap, ◌∙◌, subst, ⊎_elim, arith}
+use Rattle.std.proofs.lemmas.Bool.{cond-true, lt-ltb}
 use Rattle.model.specs.declared.nodes.Node.{Node}
 use Rattle.model.specs.declared.nodes.Node.TheVariants.{Nothing, Empty, Simple, Rule, Element, Union, Seq, Star}
 use Rattle.expressions.specs.Numbers.{null_node, earlier}
@@ -9,9 +9,9 @@ use Rattle.expressions.proofs.Nulls.{null_past}
 use Rattle.states.specs.declared.nullable.Expressions.{Expressions}
 use Rattle.states.specs.Memo.{notes, Says, Sound}
 use Rattle.states.proofs.Memos.{notes_at}
-use Rattle.states.proofs.Nullables.{null_in, Told, by_node, read_at, parts_at, here, at_part, told_noted, or_then, or_else, and_then, and_else}
+use Rattle.states.proofs.Nullables.{null_in, Told, by_node, read_at, parts_at, here, body_is, null_missing, at_part, told_noted, or_then, or_else, and_then, and_else}
 use Rattle.states.proofs.nullable.Expressions.+nullable.Goals as goal
-use Rattle.states.proofs.nullable.Expressions.+nullable.Goals.{in-Nothing, in-Empty, in-Rule+then-k-rule, in-Rule+else-k-rule, in-Union+then-left, in-Union+else-left, in-Seq+then-left-2, in-Seq+else-left-2}
+use Rattle.states.proofs.nullable.Expressions.+nullable.Goals.{in-Nothing, in-Empty, in-Rule+in-Some-body_below, in-Rule+in-None, in-Union+then-left, in-Union+else-left, in-Seq+then-left-2, in-Seq+else-left-2}
 
 pub returns-then-node-len-clause-value : goal.returns-then-node-len-clause-value
 returns-then-node-len-clause-value t c =
@@ -66,7 +66,8 @@ nullable-right-requires-in-Seq t c =
 
 pub nullable-requires : goal.nullable-requires
 nullable-requires t c =
-    (rule_falls t c.args.rule c.in-Rule.k c.args.node c.body-body.result c.decreases c.if-k-rule.true, tt)
+    let at = body_is (vec_items c.args.self.now.rules.bodies) c.in-Rule.k c.args.rule c.in-Some-body_below.body c.in-Some-body_below.ensures in
+    (rule_falls t c.args.rule c.in-Rule.k c.args.node c.in-Some-body_below.body c.decreases at.0, tt)
 
 pub invariant_of-self : goal.invariant_of-self
 invariant_of-self t c =
@@ -91,12 +92,13 @@ invariant_of-self t c =
       | in-Empty w ↦ ⊎_elim (λ e. by old true Empty w.self-is w.answer-is refl refl e refl)
           (λ e. by old true (Star e.0) w.self-is w.answer-is refl refl e.1 refl)
           w.in-Empty.is
-      | in-Rule+then-k-rule w ↦ by w.nullable.new.self w.nullable.result (Rule w.in-Rule.k) w.self-is w.answer-is
+      | in-Rule+in-Some-body_below w ↦
+          let at = body_is (vec_items old.rules.bodies) w.in-Rule.k r w.in-Some-body_below.body w.in-Some-body_below.ensures in
+          by w.nullable.new.self w.nullable.result (Rule w.in-Rule.k) w.self-is w.answer-is
           w.nullable.ensures.nodes w.nullable.ensures.rules w.in-Rule.is
-          (w.nullable.ensures.value ∙ ap (null_in old w.in-Rule.k) w.body-body.ensures
-          ∙ sym (cond-true _ _ _ (lt-ltb w.in-Rule.k r w.if-k-rule.true)))
-      | in-Rule+else-k-rule w ↦ by old (ltb w.in-Rule.k r) (Rule w.in-Rule.k) w.self-is w.answer-is refl refl w.in-Rule.is
-          (le-ltb w.in-Rule.k r w.if-k-rule.false ∙ sym (cond-false _ _ _ (le-ltb w.in-Rule.k r w.if-k-rule.false)))
+          (w.nullable.ensures.value ∙ ap (null_in old w.in-Rule.k) at.1 ∙ sym (cond-true _ _ _ (lt-ltb w.in-Rule.k r at.0)))
+      | in-Rule+in-None w ↦ by old false (Rule w.in-Rule.k) w.self-is w.answer-is refl refl w.in-Rule.is
+          (null_missing old r i w.in-Rule.k w.in-None.ensures)
       | in-Union+then-left w ↦ by w.nullable-right.new.self w.nullable-left.result (Union w.in-Union.a w.in-Union.b) w.self-is w.answer-is
           (w.nullable-right.ensures.nodes ∙ w.nullable-left.ensures.nodes) (w.nullable-right.ensures.rules ∙ w.nullable-left.ensures.rules) w.in-Union.is
           (or_then w.nullable-left.result _ (null_in old r (earlier i w.in-Union.b))
@@ -152,12 +154,13 @@ returns-clause-value t c =
       | in-Empty w ↦ ⊎_elim (λ e. by old true Empty w.self-is w.answer-is refl refl e refl)
           (λ e. by old true (Star e.0) w.self-is w.answer-is refl refl e.1 refl)
           w.in-Empty.is
-      | in-Rule+then-k-rule w ↦ by w.nullable.new.self w.nullable.result (Rule w.in-Rule.k) w.self-is w.answer-is
+      | in-Rule+in-Some-body_below w ↦
+          let at = body_is (vec_items old.rules.bodies) w.in-Rule.k r w.in-Some-body_below.body w.in-Some-body_below.ensures in
+          by w.nullable.new.self w.nullable.result (Rule w.in-Rule.k) w.self-is w.answer-is
           w.nullable.ensures.nodes w.nullable.ensures.rules w.in-Rule.is
-          (w.nullable.ensures.value ∙ ap (null_in old w.in-Rule.k) w.body-body.ensures
-          ∙ sym (cond-true _ _ _ (lt-ltb w.in-Rule.k r w.if-k-rule.true)))
-      | in-Rule+else-k-rule w ↦ by old (ltb w.in-Rule.k r) (Rule w.in-Rule.k) w.self-is w.answer-is refl refl w.in-Rule.is
-          (le-ltb w.in-Rule.k r w.if-k-rule.false ∙ sym (cond-false _ _ _ (le-ltb w.in-Rule.k r w.if-k-rule.false)))
+          (w.nullable.ensures.value ∙ ap (null_in old w.in-Rule.k) at.1 ∙ sym (cond-true _ _ _ (lt-ltb w.in-Rule.k r at.0)))
+      | in-Rule+in-None w ↦ by old false (Rule w.in-Rule.k) w.self-is w.answer-is refl refl w.in-Rule.is
+          (null_missing old r i w.in-Rule.k w.in-None.ensures)
       | in-Union+then-left w ↦ by w.nullable-right.new.self w.nullable-left.result (Union w.in-Union.a w.in-Union.b) w.self-is w.answer-is
           (w.nullable-right.ensures.nodes ∙ w.nullable-left.ensures.nodes) (w.nullable-right.ensures.rules ∙ w.nullable-left.ensures.rules) w.in-Union.is
           (or_then w.nullable-left.result _ (null_in old r (earlier i w.in-Union.b))

@@ -1,4 +1,5 @@
 use Rattle.std.proofs.Common.{◌≡◌, ◌<◌, ◌≤◌, not, length, get_or, vec_items, sym, ap, ◌∙◌, refl, subst, arith}
+use Rattle.std.proofs.lemmas.List.{get_or_default}
 use Rattle.expressions.specs.Numbers.{body_at}
 use Rattle.states.specs.declared.grammar.Rules.{Rules}
 use Rattle.states.specs.declared.recursion.Ways.{Ways}
@@ -58,8 +59,12 @@ returns-clause-value c =
     let table = vec_items c.loop.table in
     let whole : length (vec_items c.args.self.now.nodes) ≤ length table =
     (let count = inv.count in let ok = c.loop.table.ok.0 in let own = c.args.self.now.nodes.ok.0 in omega arith) in
+    let ok_bodies = old.rules.bodies.ok.0 in
+    let within : c.args.k < length (vec_items c.args.self.now.rules.bodies) = omega arith in
+    let at : c.index-body.result.now ≡ body_at bodies c.args.k =
+    c.index-body.ensures ∙ ap (λ (u : Rules). get_or (vec_items u.bodies) c.args.k c.index-body.result.now) inv.rules
+    ∙ get_or_default bodies c.args.k c.index-body.result.now 512 within in
     let read : c.at.result ≡ get_or table (body_at bodies c.args.k) no_ways =
-    c.at.ensures ∙ ap (λ l. get_or l c.body.result no_ways) c.as_slice-2.ensures.value
-    ∙ ap (λ i. get_or table i no_ways) (c.body.ensures ∙ ap (λ (u : Rules). body_at (vec_items u.bodies) c.args.k) inv.rules) in
+    c.at.ensures ∙ ap (λ l. get_or l c.index-body.result.now no_ways) c.as_slice-2.ensures.value ∙ ap (λ i. get_or table i no_ways) at in
     ap (λ (w : Ways). not w.free) read
     ∙ table_tells (vec_items old.nodes) bodies c.args.k table old.fine.0 whole inv.filled
