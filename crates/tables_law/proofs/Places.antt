@@ -1,10 +1,11 @@
 -- What one entry more keeps, place by place.
-use Rattle.std.proofs.Common.{◌≡◌, ℕ, zero, suc, ◌<◌, Bool, true, false, cond, ltb, ◌⊎◌, List, [], ◌∷◌, ◌++◌, length, get_or, Some, None, Ok, Err, sym, refl, ap, ◌∙◌, inl, inr, ⊎_elim, arith}
+use Rattle.std.proofs.Common.{◌≡◌, ℕ, ◌<◌, Bool, true, false, cond, ltb, ◌⊎◌, List, [], ◌∷◌, ◌++◌, length, get_or, Some, None, Ok, Err, sym, refl, ap, ◌∙◌, inl, inr, ⊎_elim, arith}
 use Rattle.std.specs.List.{AllByRecursion}
 use Rattle.std.specs.Str.{bytes_eq}
+use Rattle.std.proofs.lemmas.List.Folds.{list_any_at}
 use Rattle.std.proofs.lemmas.Slice.Eq.{bytes_eq-Decides}
 use Rattle.std.proofs.lemmas.List.{length_push, length-set, get_or_push, get_or_append_left, get_or-set_same, get_or-set_other}
-use Rattle.std.proofs.lemmas.Bool.{cases_eq, ltb-true, and_parts, or_parts, true≢false}
+use Rattle.std.proofs.lemmas.Bool.{cases_eq, ltb-true, and_parts, true≢false}
 use Rattle.model.specs.declared.names.Kind.{Kind}
 use Rattle.model.specs.declared.names.Kind.TheVariants as kinds
 use Rattle.model.specs.declared.names.Name.{Name}
@@ -23,9 +24,7 @@ push_cases xs x i h = ⊎_elim (λ e. inr e) (λ n. inl (omega (arith, length_pu
 
 -- what is not among the spellings stands at no place of them
 not_has : (s : List ℕ) (xs : List (List ℕ)) (i : ℕ) → has s xs ≡ false → i < length xs → get_or xs i [] ≡ s → ⊥
-not_has s [] i h l e = omega arith
-not_has s (x ∷ xs) zero h l e = true≢false (sym ((bytes_eq-Decides x s).1 e) ∙ (or_parts _ _ h).0)
-not_has s (x ∷ xs) (suc i) h l e = not_has s xs i (or_parts (bytes_eq x s) (has s xs) h).1 (omega arith) e
+not_has s xs i h l e = true≢false (sym (list_any_at (λ x. bytes_eq x s) xs i [] l ((bytes_eq-Decides _ s).1 e)) ∙ h)
 
 pub apart_more : (xs : List (List ℕ)) (s : List ℕ) → Apart xs → has s xs ≡ false → Apart (xs ++ s ∷ [])
 apart_more xs s a h i j l k e =
