@@ -1,11 +1,12 @@
 -- The writing of lawful tables is read, and gives them.
-use Rattle.std.proofs.Common.{◌≡◌, ℕ, suc, ◌+◌, ◌-◌, ◌<◌, ◌≤◌, true, false, cond, ◌&&◌, ltb, leb, List, [], ◌∷◌, ◌++◌, map, length, get_or, IfOk, Ok, Err, codes, Result, sym, refl, ap, ◌∙◌, subst, ⊎_elim, append_assoc, append-nil, arith}
+use Rattle.std.proofs.Common.{◌≡◌, ℕ, ◌+◌, ◌-◌, ◌<◌, ◌≤◌, true, false, cond, ◌&&◌, ltb, leb, List, [], ◌∷◌, ◌++◌, map, length, get_or, IfOk, Ok, Err, codes, Result, sym, refl, ap, ◌∙◌, subst, ⊎_elim, append_assoc, append-nil, arith}
 use Rattle.std.specs.List.{AllByRecursion}
 use Rattle.std.specs.Str.{bytes_eq}
-use Rattle.std.proofs.ByRecursion.{All-append}
+use Rattle.std.proofs.ByRecursion.{All-append, All-get_or}
 use Rattle.std.proofs.lemmas.Slice.Eq.{bytes_eq-Decides}
-use Rattle.std.proofs.lemmas.List.{length_push, length-append, length-map, length-set, get_or_append_left, get_or-append_right, get_or_at}
-use Rattle.std.proofs.lemmas.Bool.{and_parts, and_from, or_cases, or_from, le-leb, lt-ltb, le-ltb, ltb-true, eq-eqb, ne_eqb, cases_Bool, true≢false, not_from_true}
+use Rattle.std.proofs.lemmas.List.Folds.{Any-from_list_any}
+use Rattle.std.proofs.lemmas.List.{get_or_default, length_push, length-append, length-map, length-set, get_or_append_left, get_or-append_right, get_or_at}
+use Rattle.std.proofs.lemmas.Bool.{and_parts, and_from, or_from, le-leb, lt-ltb, le-ltb, ltb-true, eq-eqb, ne_eqb, cases_Bool, not_from_true}
 use Rattle.model.specs.declared.names.Name.{Name}
 use Rattle.model.specs.declared.nodes.Node.{Node}
 use Rattle.model.specs.declared.nodes.Node.TheVariants.{Nothing, Empty, Simple, Rule, Element, Union, Seq, Star}
@@ -35,25 +36,17 @@ use Rattle.tables_law.proofs.Given.{Small, begin_given, name_given, under_given,
 
 -- what holds of all holds of one in the middle
 all_at : {X : Type 0} (P : X → Type 0) (xs : List X) (y : X) (ys : List X) → AllByRecursion P (xs ++ y ∷ ys) → P y
-all_at P [] y ys h = h.0
-all_at P (x ∷ xs) y ys h = all_at P xs y ys h.1
-
-has_true : (s : List ℕ) (xs : List (List ℕ)) → has s xs ≡ true → (i : ℕ) × (i < length xs) × (get_or xs i [] ≡ s)
-has_true s [] h = absurd (true≢false (sym h))
-has_true s (x ∷ xs) h =
-    ⊎_elim
-    (λ (e : bytes_eq x s ≡ true). (0, omega arith, (bytes_eq-Decides x s).0 e))
-    (λ (e : has s xs ≡ true). let r = has_true s xs e in let l : r.0 < length xs = r.1 in (suc r.0, omega arith, r.2))
-    (or_cases (bytes_eq x s) (has s xs) h)
+all_at P xs y ys h = subst P (get_or_at xs y ys y (length xs) refl) (All-get_or P (xs ++ y ∷ ys) (length xs) y (omega (arith, length-append xs (y ∷ ys))) h)
 
 -- a spelling of spellings apart is new where it stands
 apart_not : (xs ys : List (List ℕ)) (s : List ℕ) → Apart (xs ++ s ∷ ys) → has s xs ≡ false
 apart_not xs ys s a =
     ⊎_elim
     (λ (t : has s xs ≡ true).
-    let r = has_true s xs t in
+    let r = Any-from_list_any (λ x. bytes_eq x s) xs t in
+    let e : get_or xs r.0 [] ≡ s = get_or_default xs r.0 [] r.1 r.2 ∙ r.3 ∙ (bytes_eq-Decides r.1 s).0 r.4 in
     let l : length xs < length (xs ++ s ∷ ys) = omega (arith, length-append xs (s ∷ ys)) in
-    absurd (a r.0 (length xs) r.1 l (get_or_append_left xs (s ∷ ys) [] r.0 r.1 ∙ r.2 ∙ sym (get_or_at xs s ys [] (length xs) refl))))
+    absurd (a r.0 (length xs) r.2 l (get_or_append_left xs (s ∷ ys) [] r.0 r.2 ∙ e ∙ sym (get_or_at xs s ys [] (length xs) refl))))
     (λ (f : has s xs ≡ false). f)
     (cases_Bool (has s xs))
 
