@@ -58,25 +58,27 @@ place_is same tells (y ∷ l) x d lt = go (same x y) refl lt (place_is same tell
 
 -- growth
 
-pub grows_push : (nodes : List Node) (x : Node) → Grows nodes (nodes ++ x ∷ [])
-unfolding Grows
-grows_push nodes x = ap (λ l. nodes ++ l) (sym (drop_at nodes (x ∷ []) (length nodes) refl))
+module _ {A : Type 0} where
+  pub grows_by : (old more new : List A) → new ≡ old ++ more → Grows old new
+  unfolding Grows
+  grows_by old more new e =
+      e ∙ ap (λ l. old ++ l) (sym (ap (drop (length old)) e ∙ drop_at old more (length old) refl))
 
-pub grows_same : (nodes : List Node) → Grows nodes nodes
-unfolding Grows
-grows_same nodes = sym (append-nil nodes) ∙ ap (λ l. nodes ++ l)
-    (sym (ap (drop (length nodes)) (sym (append-nil nodes)) ∙ drop_at nodes [] (length nodes) refl))
+  pub grows_same : (l : List A) → Grows l l
+  grows_same l = grows_by l [] l (sym (append-nil l))
 
-pub grows_long : (old new : List Node) → Grows old new → length old ≤ length new
-unfolding Grows
-grows_long old new e = let l = ap length e ∙ length-append old (drop (length old) new) in omega arith
+  pub grows_long : (old new : List A) → Grows old new → length old ≤ length new
+  unfolding Grows
+  grows_long old new e = let l = ap length e ∙ length-append old (drop (length old) new) in omega arith
 
-pub grows_on : (a b c : List Node) → Grows a b → Grows b c → Grows a c
-unfolding Grows
-grows_on a b c p q =
-    let whole : c ≡ a ++ (drop (length a) b ++ drop (length b) c) =
-    q ∙ ap (λ l. l ++ drop (length b) c) p ∙ append_assoc a (drop (length a) b) (drop (length b) c) in
-    whole ∙ ap (λ l. a ++ l) (sym (ap (drop (length a)) whole ∙ drop_at a (drop (length a) b ++ drop (length b) c) (length a) refl))
+  pub grows_on : (a b c : List A) → Grows a b → Grows b c → Grows a c
+  unfolding Grows
+  grows_on a b c p q = grows_by a (drop (length a) b ++ drop (length b) c) c
+      (q ∙ ap (λ l. l ++ drop (length b) c) p ∙ append_assoc a (drop (length a) b) (drop (length b) c))
+
+  pub grows_at : (a b : List A) (k : ℕ) (d : A) → Grows a b → k < length a → get_or b k d ≡ get_or a k d
+  unfolding Grows
+  grows_at a b k d e lt = ap (λ l. get_or l k d) e ∙ get_or_append_left a (drop (length a) b) d k lt
 
 pub grows_tree : (old new : List Node) (i : ℕ) → Grows old new → i < length old → tree new i ≡ tree old i
 unfolding Grows
@@ -153,7 +155,7 @@ enter_holds nodes x i after fine parts is e within small = ⊎_elim
     let long = length_push nodes x in
     subst (λ l. Holds nodes x i l) (sym pushed) (
       (subst (λ l. length l ≤ 512) pushed small, founded, distinct new),
-      grows_push nodes x,
+      grows_by nodes (x ∷ []) (nodes ++ x ∷ []) refl,
       omega arith,
       get_or_push nodes x Nothing i at,
     ))

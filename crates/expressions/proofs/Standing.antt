@@ -1,5 +1,5 @@
 -- States as they are numbered, and what they stand for.
-use Rattle.std.proofs.Common.{◌≡◌, ℕ, zero, suc, ◌+◌, ◌-◌, ◌<◌, ◌≤◌, Bool, true, false, cond, eqb, List, [], ◌∷◌, ◌++◌, map, length, get_or, take, drop, sym, refl, ap, ◌∙◌, subst, ap₂, ⊎_elim, append_assoc, append-nil, arith}
+use Rattle.std.proofs.Common.{◌≡◌, ℕ, zero, suc, ◌+◌, ◌-◌, ◌<◌, ◌≤◌, Bool, true, false, cond, eqb, List, [], ◌∷◌, ◌++◌, map, length, get_or, take, drop, sym, refl, ap, ◌∙◌, subst, ap₂, ⊎_elim, arith}
 use Rattle.std.proofs.lemmas.List.{length_push, length-append, length-map, get_or-map, get_or_append_left, get_or_push, get_or_past, get_or_default, drop_at, map_push, take_more, get_or-drop}
 use Rattle.std.proofs.lemmas.Bool.{cases_lt, cases_eq, false≢true, eq-eqb, eqb-true}
 use Rattle.model.specs.declared.nodes.Node.{Node}
@@ -20,40 +20,14 @@ use Rattle.book.specs.Place.{place}
 use Rattle.expressions.specs.Records.{same_number}
 use Rattle.expressions.specs.Fine.{Fine, Below, Grows, shown}
 use Rattle.expressions.specs.Derived.{part, as_trees, InBook, AllIn, ders_below, ders_at}
-use Rattle.expressions.specs.States.{named, Separate, Extends, Stated, AllStated, total}
-use Rattle.expressions.proofs.Fine.{place_is}
+use Rattle.expressions.specs.States.{named, Separate, Stated, AllStated, total}
+use Rattle.expressions.proofs.Fine.{grows_same, grows_by, grows_long, grows_at, place_is}
 use Rattle.expressions.proofs.Shown.{shown_at, below_at}
 use Rattle.expressions.proofs.Inject.{tree_once}
 use Rattle.expressions.proofs.Books.{place_le, enter_old, enter_new}
 use Rattle.expressions.proofs.Ders.{trees_grow, nulls_grow, ders_grow}
 
 -- numbers of states
-
-pub extends_same : (numbers : List ℕ) → Extends numbers numbers
-unfolding Extends
-extends_same numbers = sym (append-nil numbers) ∙ ap (λ l. numbers ++ l)
-    (sym (ap (drop (length numbers)) (sym (append-nil numbers)) ∙ drop_at numbers [] (length numbers) refl))
-
-extends_by : (old more new : List ℕ) → new ≡ old ++ more → Extends old new
-unfolding Extends
-extends_by old more new e =
-    e ∙ ap (λ l. old ++ l) (sym (ap (drop (length old)) e ∙ drop_at old more (length old) refl))
-
-pub extends_on : (a b c : List ℕ) → Extends a b → Extends b c → Extends a c
-unfolding Extends
-extends_on a b c p q = extends_by a (drop (length a) b ++ drop (length b) c) c
-    (q ∙ ap (λ l. l ++ drop (length b) c) p ∙ append_assoc a (drop (length a) b) (drop (length b) c))
-
-pub extends_long : (a b : List ℕ) → Extends a b → length a ≤ length b
-unfolding Extends
-extends_long a b e = let l = ap length e ∙ length-append a (drop (length a) b) in omega arith
-
-pub extends_at : (a b : List ℕ) (k : ℕ) → Extends a b → k < length a → get_or b k 512 ≡ get_or a k 512
-unfolding Extends
-extends_at a b k e lt = ap (λ l. get_or l k 512) e ∙ get_or_append_left a (drop (length a) b) 512 k lt
-
-same_numbers : (a b : ℕ) → same_number a b ≡ true → a ≡ b
-same_numbers a b e = eqb-true a b e
 
 place_found : (l : List ℕ) (x k : ℕ) → k < length l → get_or l k 512 ≡ x → place same_number l x ≤ k
 place_found [] x k lt e = absurd (omega arith)
@@ -70,7 +44,7 @@ place_found (y ∷ l) x (suc k) lt e = go (eqb x y) (place_found l x k (omega ar
 
 -- the book of numbers after an entry
 abbrev pub Has : List ℕ → ℕ → ℕ → List ℕ → Type 0
-Has numbers x i after = Separate after × Extends numbers after × (i < length after) × (get_or after i 512 ≡ x)
+Has numbers x i after = Separate after × Grows numbers after × (i < length after) × (get_or after i 512 ≡ x)
 
 pub enter_has : (numbers : List ℕ) (x i : ℕ) (after : List ℕ) → Separate numbers → i ≡ place same_number numbers x →
     after ≡ enter same_number numbers x → i < length after → Has numbers x i after
@@ -80,9 +54,9 @@ enter_has numbers x i after ok is e within = ⊎_elim
     let stays : after ≡ numbers = e ∙ enter_old same_number numbers x old in
     subst (λ l. Has numbers x i l) (sym stays) (
       ok,
-      extends_same numbers,
+      grows_same numbers,
       subst (λ k. k < length numbers) (sym is) old,
-      ap (λ k. get_or numbers k 512) is ∙ place_is same_number same_numbers numbers x 512 old,
+      ap (λ k. get_or numbers k 512) is ∙ place_is same_number eqb-true numbers x 512 old,
     ))
     (λ (new : length numbers ≤ place same_number numbers x).
     let pushed : after ≡ numbers ++ x ∷ [] = e ∙ enter_new same_number numbers x new in
@@ -90,7 +64,7 @@ enter_has numbers x i after ok is e within = ⊎_elim
     let at : length numbers ≡ i = omega arith in
     let long = length_push numbers x in
     subst (λ l. Has numbers x i l) (sym pushed)
-    (separate new, extends_by numbers (x ∷ []) (numbers ++ x ∷ []) refl, omega arith, get_or_push numbers x 512 i at))
+    (separate new, grows_by numbers (x ∷ []) (numbers ++ x ∷ []) refl, omega arith, get_or_push numbers x 512 i at))
     (cases_lt (place same_number numbers x) (length numbers))
   where
     apart : length numbers ≤ place same_number numbers x → (k : ℕ) → k < length numbers → get_or numbers k 512 ≡ x → ⊥
@@ -116,17 +90,17 @@ enter_has numbers x i after ok is e within = ⊎_elim
         (cases_lt j (length numbers))
 
 -- derivatives by states, as numbers are added
-pub named_stay : (a b : List ℕ) (ds : List Derivative) → Extends a b → AllIn (length a) ds → map (named b) ds ≡ map (named a) ds
+pub named_stay : (a b : List ℕ) (ds : List Derivative) → Grows a b → AllIn (length a) ds → map (named b) ds ≡ map (named a) ds
 unfolding AllIn
 named_stay a b [] e ok = refl
 named_stay a b (d ∷ ds) e ok = ap₂ (λ x l. x ∷ l)
-    (ap₂ (λ x y. (d.0, x, y)) (extends_at a b d.1 e (ok d here).0) (extends_at a b d.2 e (ok d here).1))
+    (ap₂ (λ x y. (d.0, x, y)) (grows_at a b d.1 512 e (ok d here).0) (grows_at a b d.2 512 e (ok d here).1))
     (named_stay a b ds e (λ y m. ok y (there m)))
 
-pub all_extends : (a b : List ℕ) (ds : List Derivative) → Extends a b → AllIn (length a) ds → AllIn (length b) ds
+pub all_extends : (a b : List ℕ) (ds : List Derivative) → Grows a b → AllIn (length a) ds → AllIn (length b) ds
 unfolding AllIn
 all_extends a b ds e ok d m =
-    let l = extends_long a b e in let p = (ok d m).0 in let q = (ok d m).1 in (omega arith, omega arith)
+    let l = grows_long a b e in let p = (ok d m).0 in let q = (ok d m).1 in (omega arith, omega arith)
 
 pub part_push : (found : List Derivative) (from i : ℕ) → from ≤ i → i < length found →
     part found from (i + 1) ≡ part found from i ++ get_or found i (0, 0, 0) ∷ []
@@ -145,7 +119,7 @@ map_map f g [] = refl
 map_map f g (x ∷ xs) = ap (λ l. f (g x) ∷ l) (map_map f g xs)
 
 -- what holds of a state stays when nodes and numbers are added
-pub stated_stays : (old new : List Node) (bodies a b : List ℕ) (i : ℕ) (p : Plain) → Grows old new → Extends a b →
+pub stated_stays : (old new : List Node) (bodies a b : List ℕ) (i : ℕ) (p : Plain) → Grows old new → Grows a b →
     Below (length old) bodies → Below (length old) a → i < length old → Stated old bodies a i p → Stated new bodies b i p
 unfolding AllIn
 stated_stays old new bodies a b i p g e below numbers_in lt s = record {
@@ -167,13 +141,13 @@ stated_stays old new bodies a b i p g e below numbers_in lt s = record {
           below_at (length old) a found.0.2 512 numbers_in (s.within found.0 found.1).1,
         )
 
-pub all_stated_stays : (old new : List Node) (bodies a b : List ℕ) (states : List Plain) → Grows old new → Extends a b →
+pub all_stated_stays : (old new : List Node) (bodies a b : List ℕ) (states : List Plain) → Grows old new → Grows a b →
     Below (length old) bodies → Below (length old) a → length states ≤ length a →
     AllStated old bodies a states → AllStated new bodies b states
 unfolding AllStated
 all_stated_stays old new bodies a b states g e below numbers_in le ok q lt =
     let inside : q < length a = omega arith in
-    subst (λ i. Stated new bodies b i (get_or states q no_state)) (sym (extends_at a b q e inside))
+    subst (λ i. Stated new bodies b i (get_or states q no_state)) (sym (grows_at a b q 512 e inside))
     (stated_stays old new bodies a b (get_or a q 512) (get_or states q no_state) g e below numbers_in
     (below_at (length old) a q 512 numbers_in inside) (ok q lt))
 

@@ -45,8 +45,8 @@ Fine nodes = (length nodes ≤ 512) × Founded nodes × Distinct nodes
 unfoldable pub Below : ℕ → List ℕ → Type 0
 Below n numbers = (k : ℕ) → k < length numbers → slice_index_or numbers k 512 < n
 
--- a book that was added to
-unfoldable pub Grows : List Node → List Node → Type 0
+-- a list that was added to
+unfoldable pub Grows : {A : Type 0} → List A → List A → Type 0
 Grows old new = new ≡ old ++ drop (length old) new
 
 -- the expressions of numbers

@@ -1,5 +1,5 @@
 -- States by the numbers of their expressions.
-use Rattle.std.specs.Prelude.{◌≡◌, ℕ, ◌+◌, ◌<◌, List, [], ◌∷◌, ◌++◌, map, length, drop, slice_index_or}
+use Rattle.std.specs.Prelude.{◌≡◌, ℕ, ◌+◌, ◌<◌, List, [], ◌∷◌, map, length, slice_index_or}
 use Rattle.model.specs.declared.nodes.Node.{Node}
 use Rattle.model.specs.Machine.{Derivative, Plain, no_state}
 use Rattle.expressions.specs.Numbers.{null_at}
@@ -13,10 +13,6 @@ named numbers d = (d.0, slice_index_or numbers d.1 512, slice_index_or numbers d
 unfoldable pub Separate : List ℕ → Type 0
 Separate numbers = (j k : ℕ) → j < length numbers → k < length numbers →
     slice_index_or numbers j 512 ≡ slice_index_or numbers k 512 → j ≡ k
-
--- numbers that were added to
-unfoldable pub Extends : List ℕ → List ℕ → Type 0
-Extends old new = new ≡ old ++ drop (length old) new
 
 -- the state has the nullability and the derivatives of the expression number i
 pub record Stated (nodes : List Node) (bodies numbers : List ℕ) (i : ℕ) (p : Plain) : Type 0 where

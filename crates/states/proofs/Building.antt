@@ -19,12 +19,12 @@ use Rattle.book.specs.Place.{place}
 use Rattle.expressions.specs.Records.{same_number}
 use Rattle.expressions.specs.Fine.{Below, Grows, shown}
 use Rattle.expressions.specs.Derived.{part, as_trees, AllIn, ders_at}
-use Rattle.expressions.specs.States.{named, Separate, Extends, Stated, AllStated, total}
+use Rattle.expressions.specs.States.{named, Separate, Stated, AllStated, total}
 use Rattle.expressions.proofs.Books.{enter_old, enter_new}
-use Rattle.expressions.proofs.Fine.{grows_tree, below_more}
+use Rattle.expressions.proofs.Fine.{grows_same, grows_on, grows_long, grows_at, grows_tree, below_more}
 use Rattle.expressions.proofs.Shown.{below_push, below_at}
 use Rattle.expressions.proofs.Ders.{all_none, all_append, all_one, bodies_grow}
-use Rattle.expressions.proofs.Standing.{extends_same, extends_on, extends_long, extends_at, enter_has, named_stay, all_extends, all_stated_stays, all_stated_none, all_stated_more, total_more, map_map, mention_count, mention_at, stands}
+use Rattle.expressions.proofs.Standing.{enter_has, named_stay, all_extends, all_stated_stays, all_stated_none, all_stated_more, total_more, map_map, mention_count, mention_at, stands}
 use Rattle.states.specs.declared.derive.Span.{Span}
 use Rattle.states.specs.declared.grammar.Rules.{Rules}
 use Rattle.states.specs.declared.nullable.Expressions.{Expressions}
@@ -47,7 +47,7 @@ below_enter n numbers after x e ok lt = ⊎_elim
 pub named_none : (numbers : List ℕ) (v : List Derivative) → Separate numbers → v ≡ [] → Named numbers numbers [] v
 named_none numbers v ok e = record {
   separate = ok;
-  extends = extends_same numbers;
+  extends = grows_same numbers;
   few = λ h. h;
   below = λ n p q. p;
   within = subst (AllIn (length numbers)) (sym e) (all_none (length numbers));
@@ -64,15 +64,15 @@ named_more start old mid new found v v' k a b lt s p q pushed =
     let d = get_or found k (0, 0, 0) in
     let first = enter_has old d.1 a mid s.separate p.0 p.1 p.2 in
     let second = enter_has mid d.2 b new first.0 q.0 q.1 q.2 in
-    let on = extends_on old mid new first.1 second.1 in
-    let long = extends_long mid new second.1 in
+    let on = grows_on old mid new first.1 second.1 in
+    let long = grows_long mid new second.1 in
     let a_in = first.2 in
     let step : take (k + 1) found ≡ take k found ++ d ∷ [] = take_more found k (0, 0, 0) lt in
     let own : named new (d.0, a, b) ≡ d =
-    ap₂ (λ x y. (d.0, x, y)) (extends_at mid new a second.1 first.2 ∙ first.3) second.3 in
+    ap₂ (λ x y. (d.0, x, y)) (grows_at mid new a 512 second.1 first.2 ∙ first.3) second.3 in
     record {
       separate = second.0;
-      extends = extends_on start old new s.extends on;
+      extends = grows_on start old new s.extends on;
       few = λ small. q.3 (p.3 (s.few small));
       below = λ n ok all.
           let all' = subst (AllIn n) step all in
@@ -113,17 +113,17 @@ numbering_made w b old new ds v span g p is s = (
 
 -- one state more
 pub so_far_more : (w old new : Work) (start before after : List ℕ) (states : List Plain) (p : Plain) (i : ℕ) →
-    SoFar w old start before states → Goes old new → Numbering (nodes_of new) after → Extends before after →
+    SoFar w old start before states → Goes old new → Numbering (nodes_of new) after → Grows before after →
     length states < length before → i ≡ get_or before (length states) i →
     Stated (nodes_of new) (bodies_of new) after i p → total states + length p.derivatives ≤ 512 →
     SoFar w new start after (states ++ p ∷ [])
 so_far_more w old new start before after states p i s g numbers e lt is stated few =
     let read : i ≡ get_or after (length states) 512 =
-    is ∙ get_or_default before (length states) i 512 lt ∙ sym (extends_at before after (length states) e lt) in
+    is ∙ get_or_default before (length states) i 512 lt ∙ sym (grows_at before after (length states) 512 e lt) in
     record {
       goes = goes_on w old new s.goes g;
       numbers = numbers;
-      extends = extends_on start before after s.extends e;
+      extends = grows_on start before after s.extends e;
       stated = all_stated_more (nodes_of new) (bodies_of new) after states p
           (subst (λ (u : Rules). AllStated (nodes_of new) (vec_items u.bodies) after states) (sym g.rules)
           (all_stated_stays (nodes_of old) (nodes_of new) (bodies_of old) before after states g.nodes e old.expressions.within s.numbers.2 (omega arith) s.stated))
@@ -136,7 +136,7 @@ pub so_far_none : (w : Work) (numbers : List ℕ) (states : List Plain) → Numb
 so_far_none w numbers states ok e = subst (SoFar w w numbers numbers) (sym e) (record {
   goes = goes_same w;
   numbers = ok;
-  extends = extends_same numbers;
+  extends = grows_same numbers;
   stated = all_stated_none (nodes_of w) (bodies_of w) numbers;
   few = omega arith;
 })
@@ -173,7 +173,7 @@ built file rules g w new numbers m read lawful same_nodes same_rules s count =
     let first = vec_items g.mentions in
     let few = s.numbers.1 in
     let mentioned_count = mention_count nodes first (length rules) read.mentions_are in
-    let long = extends_long first numbers s.extends in
+    let long = grows_long first numbers s.extends in
     let grown : Grows nodes (nodes_of new) = subst (λ l. Grows l (nodes_of new)) (ap (λ v. vec_items v) same_nodes) s.goes.nodes in
     let same_bodies : bodies_of new ≡ vec_items g.rules.bodies = ap (λ (u : Rules). vec_items u.bodies) (s.goes.rules ∙ same_rules) in
     let same : body_of (nodes_of new) bodies ≡ body_of file rules =
@@ -192,7 +192,7 @@ built file rules g w new numbers m read lawful same_nodes same_rules s count =
             let inside : k < length first = omega arith in
             let there_in = below_at (length nodes) first k 512 read.mentions_in inside in (
               omega arith,
-              ap (tree (nodes_of new)) (extends_at first numbers k s.extends inside)
+              ap (tree (nodes_of new)) (grows_at first numbers k 512 s.extends inside)
                   ∙ grows_tree nodes (nodes_of new) (get_or first k 512) grown there_in
                   ∙ mention_at nodes first (length rules) k read.mentions_are lt,
             ))),

@@ -1,7 +1,7 @@
 -- The work on derivatives as it goes on.
-use Rattle.std.proofs.Common.{◌≡◌, ℕ, ◌+◌, ◌*◌, ◌<◌, ◌≤◌, Bool, true, false, cond, ltb, List, [], ◌∷◌, ◌++◌, map, length, get_or, drop, set, Some, None, vec_items, sym, refl, ap, ◌∙◌, subst, ap₂, append_assoc, append-nil, ⊎_elim, arith}
+use Rattle.std.proofs.Common.{◌≡◌, ℕ, ◌+◌, ◌*◌, ◌<◌, ◌≤◌, Bool, true, false, cond, ltb, List, [], ◌∷◌, ◌++◌, map, length, get_or, drop, set, Some, None, vec_items, sym, refl, ap, ◌∙◌, subst, ap₂, append-nil, ⊎_elim, arith}
 use Rattle.std.specs.List.{slice_get}
-use Rattle.std.proofs.lemmas.List.{length-append, drop_at, map-append}
+use Rattle.std.proofs.lemmas.List.{length-append, map-append}
 use Rattle.std.proofs.lemmas.Bool.{cond-true, cond-false, lt-ltb}
 use Rattle.model.specs.declared.nodes.Node.{Node}
 use Rattle.model.specs.declared.nodes.Node.TheVariants.{Nothing, Simple, Rule, Element, Union, Seq, Star}
@@ -14,45 +14,25 @@ use Rattle.expressions.specs.Numbers.{earlier, body_at, tree, null_at}
 use Rattle.expressions.specs.Records.{same_derivative}
 use Rattle.expressions.specs.Fine.{Fine, Grows}
 use Rattle.expressions.specs.Derived.{part, as_trees, AllIn, ders_at, ders_node}
-use Rattle.expressions.proofs.Fine.{grows_same, grows_on, grows_tree, grows_long}
+use Rattle.expressions.proofs.Fine.{grows_same, grows_by, grows_on, grows_tree, grows_long}
 use Rattle.expressions.proofs.Ders.{part_none, part_old, part_new, all_none, all_one, all_part, all_append, all_entered, all_grows, trees_grow, entered_trees, ders_step, ders_past, ders_grow, nulls_grow}
 use Rattle.states.specs.declared.derive.Span.{Span}
 use Rattle.states.specs.declared.derive.Work.{Work}
 use Rattle.states.specs.declared.grammar.Rules.{Rules}
 use Rattle.states.specs.declared.nullable.Expressions.{Expressions}
 use Rattle.states.specs.Memo.{notes}
-use Rattle.states.specs.Spans.{Inside, told, Longer, Finds, Spans}
+use Rattle.states.specs.Spans.{Inside, told, Finds, Spans}
 use Rattle.states.specs.Derive.{nodes_of, bodies_of, found_of, Goes, Gives, Went, both, in_turn, JoinedTo}
 use Rattle.states.proofs.Nullables.{parts_at, here, body_none}
 use Rattle.states.proofs.Memos.{notes_all, notes_at, notes_set}
 
--- lists that were added to
-
-pub longer_by : (found ds after : List Derivative) → after ≡ found ++ ds → Longer found after
-unfolding Longer
-longer_by found ds after e =
-    e ∙ ap (λ l. found ++ l) (sym (ap (drop (length found)) e ∙ drop_at found ds (length found) refl))
-
-pub longer_same : (found : List Derivative) → Longer found found
-longer_same found = longer_by found [] found (sym (append-nil found))
-
-longer_on : (a b c : List Derivative) → Longer a b → Longer b c → Longer a c
-unfolding Longer
-longer_on a b c p q =
-    longer_by a (drop (length a) b ++ drop (length b) c) c
-    (q ∙ ap (λ l. l ++ drop (length b) c) p ∙ append_assoc a (drop (length a) b) (drop (length b) c))
-
-longer_long : (a b : List Derivative) → Longer a b → length a ≤ length b
-unfolding Longer
-longer_long a b e = let l = ap length e ∙ length-append a (drop (length a) b) in omega arith
-
 -- a span of what was there before
-inside_longer : (a b : List Derivative) (s : Span) → Longer a b → Inside a s → Inside b s
-inside_longer a b s e inside = let l = longer_long a b e in let q = inside.1 in (inside.0, omega arith)
+inside_longer : (a b : List Derivative) (s : Span) → Grows a b → Inside a s → Inside b s
+inside_longer a b s e inside = let l = grows_long a b e in let q = inside.1 in (inside.0, omega arith)
 
-told_longer : (old new : List Node) (a b : List Derivative) (s : Span) → Grows old new → Longer a b → AllIn (length old) a → Inside a s →
+told_longer : (old new : List Node) (a b : List Derivative) (s : Span) → Grows old new → Grows a b → AllIn (length old) a → Inside a s →
     told new b s ≡ told old a s
-unfolding Longer
+unfolding Grows
 told_longer old new a b s g e ok inside =
     ap (map (as_trees new)) (ap (λ l. part l s.from s.to) e ∙ part_old a (drop (length a) b) s.from s.to inside.0 inside.1)
     ∙ trees_grow old new (part a s.from s.to) g (all_part (length old) a s.from s.to ok)
@@ -60,13 +40,13 @@ told_longer old new a b s g e ok inside =
 -- going on
 
 pub goes_same : (w : Work) → Goes w w
-goes_same w = record { rules = refl; nodes = grows_same (nodes_of w); found = longer_same (found_of w) }
+goes_same w = record { rules = refl; nodes = grows_same (nodes_of w); found = grows_same (found_of w) }
 
 pub goes_on : (a b c : Work) → Goes a b → Goes b c → Goes a c
 goes_on a b c p q = record {
   rules = q.rules ∙ p.rules;
   nodes = grows_on (nodes_of a) (nodes_of b) (nodes_of c) p.nodes q.nodes;
-  found = longer_on (found_of a) (found_of b) (found_of c) p.found q.found;
+  found = grows_on (found_of a) (found_of b) (found_of c) p.found q.found;
 }
 
 pub gives_on : (a b c : Work) (ds : List Derived) (s : Span) → Goes a b → Gives b c ds s → Gives a c ds s
@@ -102,7 +82,7 @@ long_goes a b p = grows_long (nodes_of a) (nodes_of b) p.nodes
 -- the facts of the work as book and list grow
 
 pub known_stays : (w : Work) (e : Expressions) (found : List Derivative) → e.rules ≡ w.expressions.rules →
-    Grows (nodes_of w) (vec_items e.nodes) → Longer (found_of w) found →
+    Grows (nodes_of w) (vec_items e.nodes) → Grows (found_of w) found →
     Spans (vec_items e.nodes) (vec_items e.rules.bodies) found (notes w.spans)
 known_stays w e found same g l =
     let old = nodes_of w in
@@ -124,9 +104,9 @@ listed_stays w e g = all_grows (nodes_of w) (vec_items e.nodes) (found_of w) g w
 
 -- keeping a list or not
 pub kept_or_not : (n : ℕ) (found list after : List Derivative) (b : Bool) → after ≡ cond b (found ++ list) found →
-    AllIn n found → AllIn n list → AllIn n after × Longer found after
-kept_or_not n found list after true e p q = (subst (AllIn n) (sym e) (all_append n found list p q), longer_by found list after e)
-kept_or_not n found list after false e p q = (subst (AllIn n) (sym e) p, subst (Longer found) (sym e) (longer_same found))
+    AllIn n found → AllIn n list → AllIn n after × Grows found after
+kept_or_not n found list after true e p q = (subst (AllIn n) (sym e) (all_append n found list p q), grows_by found list after e)
+kept_or_not n found list after false e p q = (subst (AllIn n) (sym e) p, subst (Grows found) (sym e) (grows_same found))
 
 pub kept_gives : (old new : Work) (list : List Derivative) (s : Span) → new.expressions ≡ old.expressions →
     found_of new ≡ found_of old ++ list → s.from ≡ length (found_of old) → s.to ≡ length (found_of new) →
@@ -140,7 +120,7 @@ kept_gives old new list s same all from to =
       goes = record {
         rules = ap (λ (e : Expressions). e.rules) same;
         nodes = subst (Grows (nodes_of old)) (sym nodes) (grows_same (nodes_of old));
-        found = longer_by found list after all;
+        found = grows_by found list after all;
       };
       inside = (omega arith, omega arith);
       value = ap₂ (λ n l. map (as_trees n) l) nodes

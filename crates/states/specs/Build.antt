@@ -8,9 +8,9 @@ use Rattle.theory.specs.Language.{Expr}
 use Rattle.theory.specs.Recursion.{LawfulRule, LawfulRules}
 use Rattle.theory.specs.Stands.{Stands}
 use Rattle.theory.specs.Tree.{body_of}
-use Rattle.expressions.specs.Fine.{Below}
+use Rattle.expressions.specs.Fine.{Below, Grows}
 use Rattle.expressions.specs.Derived.{AllIn}
-use Rattle.expressions.specs.States.{named, Separate, Extends, Stated, AllStated, total}
+use Rattle.expressions.specs.States.{named, Separate, Stated, AllStated, total}
 use Rattle.states.specs.declared.error.BuildError.{BuildError}
 use Rattle.states.specs.declared.error.BuildError.TheVariants.{Recursion, TooLarge, NoMemory}
 use Rattle.states.specs.declared.derive.Work.{Work}
@@ -19,7 +19,7 @@ use Rattle.states.specs.Derive.{nodes_of, bodies_of, Goes}
 -- derivatives by expressions were turned into derivatives by states, which were added where new
 pub record Named (old new : List ℕ) (ds by_states : List Derivative) : Type 0 where
   pub separate : Separate new
-  pub extends : Extends old new
+  pub extends : Grows old new
   pub few : length old ≤ 128 → length new ≤ 128
   pub below : (n : ℕ) → Below n old → AllIn n ds → Below n new
   pub within : AllIn (length new) by_states
@@ -33,14 +33,14 @@ Numbering nodes numbers = Separate numbers × (length numbers ≤ 128) × Below 
 pub record Stating (old new : Work) (before after : List ℕ) (i : ℕ) (s : State) : Type 0 where
   pub goes : Goes old new
   pub numbers : Numbering (nodes_of new) after
-  pub extends : Extends before after
+  pub extends : Grows before after
   pub stated : Stated (nodes_of new) (bodies_of new) after i (plain s)
 
 -- half-way through: all states so far have what their expressions have
 pub record SoFar (old new : Work) (before after : List ℕ) (states : List Plain) : Type 0 where
   pub goes : Goes old new
   pub numbers : Numbering (nodes_of new) after
-  pub extends : Extends before after
+  pub extends : Grows before after
   pub stated : AllStated (nodes_of new) (bodies_of new) after states
   pub few : total states ≤ 512
 

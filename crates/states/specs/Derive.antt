@@ -8,7 +8,7 @@ use Rattle.expressions.specs.Fine.{Grows}
 use Rattle.expressions.specs.Derived.{as_trees, AllIn, ders_at}
 use Rattle.states.specs.declared.derive.Span.{Span}
 use Rattle.states.specs.declared.derive.Work.{Work}
-use Rattle.states.specs.Spans.{Inside, told, Longer}
+use Rattle.states.specs.Spans.{Inside, told}
 
 -- the parts of the work
 abbrev pub nodes_of : Work → List Node
@@ -24,7 +24,7 @@ found_of w = vec_items w.found
 pub record Goes (old new : Work) : Type 0 where
   pub rules : new.expressions.rules ≡ old.expressions.rules
   pub nodes : Grows (nodes_of old) (nodes_of new)
-  pub found : Longer (found_of old) (found_of new)
+  pub found : Grows (found_of old) (found_of new)
 
 -- and the span has these derivatives
 pub record Gives (old new : Work) (ds : List Derived) (s : Span) : Type 0 where

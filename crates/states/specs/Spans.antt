@@ -1,5 +1,5 @@
 -- Derivatives that stand in spans of a list.
-use Rattle.std.specs.Prelude.{◌≡◌, ℕ, ◌<◌, ◌≤◌, List, ◌++◌, map, length, drop, Option}
+use Rattle.std.specs.Prelude.{◌≡◌, ℕ, ◌<◌, ◌≤◌, List, map, length, Option}
 use Rattle.std.specs.Coded.{le_prop}
 use Rattle.model.specs.declared.nodes.Node.{Node}
 use Rattle.model.specs.Machine.{Derivative}
@@ -16,10 +16,6 @@ Inside found s = (s.from ≤ s.to) × (s.to ≤ length found)
 -- the derivatives of a span, by expressions
 abbrev pub told : List Node → List Derivative → Span → List Derived
 told nodes found s = map (as_trees nodes) (part found s.from s.to)
-
--- a list that was added to
-unfoldable pub Longer : List Derivative → List Derivative → Type 0
-Longer old new = new ≡ old ++ drop (length old) new
 
 -- the span has the derivatives of the expression number i below the rule r
 abbrev pub Lists : List Node → List ℕ → List Derivative → ℕ → ℕ → Span → Type 0

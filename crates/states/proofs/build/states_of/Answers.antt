@@ -3,7 +3,8 @@ use Rattle.std.proofs.lemmas.List.{map_push, length-map}
 use Rattle.model.specs.Machine.{plain, Plain}
 use Rattle.expressions.specs.States.{total}
 use Rattle.expressions.proofs.Shown.{below_at}
-use Rattle.expressions.proofs.Standing.{total_more, extends_long}
+use Rattle.expressions.proofs.Fine.{grows_long}
+use Rattle.expressions.proofs.Standing.{total_more}
 use Rattle.states.specs.Derive.{nodes_of}
 use Rattle.states.specs.Build.{SoFar}
 use Rattle.std.specs.Option.{unwrap_or}
@@ -60,7 +61,7 @@ loop-node-preserved c =
     let sum = c.loop-node.invariant.total in
     let few = so_far.few in
     let enough : total states + length p.derivatives ≤ 512 = omega arith in
-    let long = extends_long before after MadeSo.extends in
+    let long = grows_long before after MadeSo.extends in
     let longer = c.in_ok-push.ensures.len in
     let read : c.in-Some.node ≡ get_or before (length states) c.in-Some.node =
     ap (λ o. unwrap_or o n) e ∙ c.get.ensures.lookup.4 (omega arith) n ∙ ap (λ l. get_or l c.len.result n) same

@@ -1,7 +1,8 @@
 use Rattle.std.proofs.Common.{length, sym, subst, ap, ◌∙◌}
 use Rattle.expressions.specs.Derived.{part, AllIn}
 use Rattle.states.specs.Derive.{nodes_of, found_of}
-use Rattle.states.proofs.Going.{part_in, listed_stays, known_stays, longer_same}
+use Rattle.expressions.proofs.Fine.{grows_same}
+use Rattle.states.proofs.Going.{part_in, listed_stays, known_stays}
 use Rattle.states.proofs.derive.Work.joined_to.Goals as goal
 
 pub joined_to-requires-clause-within : goal.joined_to-requires-clause-within
@@ -16,9 +17,9 @@ invariant_of-self c =
     let e = c.joined_to.new.self in
     record {
       listed = listed_stays w e c.joined_to.ensures.nodes;
-      known = known_stays w e (found_of w) c.joined_to.ensures.rules c.joined_to.ensures.nodes (longer_same (found_of w));
+      known = known_stays w e (found_of w) c.joined_to.ensures.rules c.joined_to.ensures.nodes (grows_same (found_of w));
     }
 
 pub returns-clause-goes : goal.returns-clause-goes
 returns-clause-goes c =
-    record { rules = c.joined_to.ensures.rules; nodes = c.joined_to.ensures.nodes; found = longer_same (found_of c.args.self.now) }
+    record { rules = c.joined_to.ensures.rules; nodes = c.joined_to.ensures.nodes; found = grows_same (found_of c.args.self.now) }
