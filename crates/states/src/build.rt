@@ -41,20 +41,19 @@ fn by_states(
 }
 
 // The state of an expression.
-fn state_of(
-    heap: Global,
-    work: &mut Work,
-    numbers: &mut Vec<usize>,
-    node: usize,
-) -> Result<State, Limit>
+fn state_of(work: &mut Work, numbers: &mut Vec<usize>, node: usize) -> Result<State, Limit>
     requires numbers { Numbering (nodes_of work.old) numbers.old.items }
     requires node { node < length (nodes_of work.old) }
     ensures { IfOk result (λ s. Stating work.old work.new numbers.old.items numbers.new.items node s) }
 {
     let count = work.expressions.rules.bodies.len();
-    let span = work.derive(heap, count, node)?;
+    let span = work.derive(count, node)?;
     let nullable = work.nullable(node);
-    let derivatives = by_states(heap, numbers, span.of(work.found.as_slice()))?;
+    let derivatives = by_states(
+        work.expressions.heap,
+        numbers,
+        span.of(work.found.as_slice()),
+    )?;
     Ok(State {
         nullable,
         derivatives,
@@ -62,15 +61,15 @@ fn state_of(
 }
 
 // All states, from those of the rules on.
-fn states_of(heap: Global, work: &mut Work, numbers: &mut Vec<usize>) -> Result<Machine, Limit>
+fn states_of(work: &mut Work, numbers: &mut Vec<usize>) -> Result<Machine, Limit>
     requires { Numbering (nodes_of work.old) numbers.old.items }
     ensures so_far { IfOk result (λ m. SoFar work.old work.new numbers.old.items numbers.new.items (states_of m)) }
     ensures count { IfOk result (λ m. length (states_of m) ≡ length numbers.new.items) }
 {
-    let mut states = Vec::new(heap);
+    let mut states = Vec::new(work.expressions.heap);
     let mut total = 0;
     while let Some(node) = numbers.get(states.len()).copied() {
-        let state = state_of(heap, work, numbers, node)?;
+        let state = state_of(work, numbers, node)?;
         let more = state.derivatives.len();
         if more > DERIVATIVES - total {
             return Err(Limit::TooLarge);
@@ -94,11 +93,11 @@ pub fn build(heap: Global, nodes: &[Node], bodies: &[usize]) -> Result<Machine, 
         mentions,
     } = read(heap, nodes, bodies)?;
     let mut expressions = Expressions::new(heap, nodes, rules)?;
-    if let Some(k) = expressions.first_unlawful(heap)? {
+    if let Some(k) = expressions.first_unlawful()? {
         return Err(BuildError::Recursion(k));
     }
     let mut work = Work::new(heap, expressions)?;
     let mut numbers = mentions;
-    let machine = states_of(heap, &mut work, &mut numbers)?;
+    let machine = states_of(&mut work, &mut numbers)?;
     Ok(machine)
 }

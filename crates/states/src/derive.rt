@@ -88,7 +88,7 @@ impl Work {
     }
 
     // The derivatives of a span with s joined to each rest.
-    fn joined_to(&mut self, heap: Global, span: Span, s: usize) -> Result<Vec<Derivative>, Limit>
+    fn joined_to(&mut self, span: Span, s: usize) -> Result<Vec<Derivative>, Limit>
         requires inside { Inside (found_of self.old) span }
         requires s { s < length (nodes_of self.old) }
         ensures goes { Goes self.old self.new }
@@ -96,31 +96,31 @@ impl Work {
         ensures value { IfOk result (λ v. JoinedTo (nodes_of self.old) (nodes_of self.new) (part (found_of self.old) span.from span.to) s v.items) }
     {
         let derivatives = span.of(self.found.as_slice());
-        self.expressions.joined_to(heap, derivatives, s)
+        self.expressions.joined_to(derivatives, s)
     }
 
     // A union: the derivatives of the left side, then those of the right side.
-    fn of_union(&mut self, heap: Global, left: Span, right: Span) -> Result<Span, Limit>
+    fn of_union(&mut self, left: Span, right: Span) -> Result<Span, Limit>
         requires left { Inside (found_of self.old) left }
         requires right { Inside (found_of self.old) right }
         ensures { IfOk result (λ s. Gives self.old self.new (both self.old left right) s) }
     {
         let found = self.found.as_slice();
-        let list = once(heap, left.of(found), right.of(found))?;
+        let list = once(self.expressions.heap, left.of(found), right.of(found))?;
         self.keep(list.as_slice())
     }
 
     // A sequence or a star: the derivatives of its first part with s joined to each rest, then
     // others.
-    fn of_first(&mut self, heap: Global, first: Span, s: usize, then: Span) -> Result<Span, Limit>
+    fn of_first(&mut self, first: Span, s: usize, then: Span) -> Result<Span, Limit>
         requires first { Inside (found_of self.old) first }
         requires then { Inside (found_of self.old) then }
         requires s { s < length (nodes_of self.old) }
         ensures { IfOk result (λ p. Gives self.old self.new (in_turn self.old first s then) p) }
     {
-        let joined = self.joined_to(heap, first, s)?;
+        let joined = self.joined_to(first, s)?;
         let others = then.of(self.found.as_slice());
-        let list = once(heap, joined.as_slice(), others)?;
+        let list = once(self.expressions.heap, joined.as_slice(), others)?;
         self.keep(list.as_slice())
     }
 
@@ -138,7 +138,7 @@ impl Work {
 
     // The derivatives of a node, where only the rules below `rule` are known. A mention is followed
     // into that rule's body.
-    pub fn derive(&mut self, heap: Global, rule: usize, node: usize) -> Result<Span, Limit>
+    pub fn derive(&mut self, rule: usize, node: usize) -> Result<Span, Limit>
         ensures { IfOk result (λ s. Went self.old self.new rule node s) }
     {
         if let Some(span) = self.found_before(rule, node) {
@@ -150,26 +150,26 @@ impl Work {
             Node::Simple(n) => self.keep(&[(n, empty, empty)])?,
             Node::Element(n, c) => self.keep(&[(n, c, empty)])?,
             Node::Rule(k) => match self.expressions.rules.body_below(k, rule) {
-                Some(body) => self.derive(heap, k, body)?,
+                Some(body) => self.derive(k, body)?,
                 None => Span::default(),
             },
             Node::Union(a, b) => {
-                let left = self.derive(heap, rule, a)?;
-                let right = self.derive(heap, rule, b)?;
-                self.of_union(heap, left, right)?
+                let left = self.derive(rule, a)?;
+                let right = self.derive(rule, b)?;
+                self.of_union(left, right)?
             }
             Node::Seq(a, b) => {
-                let first = self.derive(heap, rule, a)?;
+                let first = self.derive(rule, a)?;
                 let then = if self.nullable(a) {
-                    self.derive(heap, rule, b)?
+                    self.derive(rule, b)?
                 } else {
                     Span::default()
                 };
-                self.of_first(heap, first, b, then)?
+                self.of_first(first, b, then)?
             }
             Node::Star(a) => {
-                let first = self.derive(heap, rule, a)?;
-                self.of_first(heap, first, node, Span::default())?
+                let first = self.derive(rule, a)?;
+                self.of_first(first, node, Span::default())?
             }
         };
         self.spans.set(rule, node, span);

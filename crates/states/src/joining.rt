@@ -5,7 +5,6 @@ use crate::grammar::EXPRESSIONS;
 use crate::nullable::Expressions;
 use model::machine::Derivative;
 use model::nodes::Node;
-use std::alloc::Global;
 
 impl Expressions {
     ghost use Rattle.std.specs.Prelude.{◌≡◌, ◌<◌, IfOk, length};
@@ -33,7 +32,6 @@ impl Expressions {
     // Derivatives with s joined to each rest.
     pub fn joined_to(
         &mut self,
-        heap: Global,
         derivatives: &[Derivative],
         s: usize,
     ) -> Result<Vec<Derivative>, Limit>
@@ -43,7 +41,7 @@ impl Expressions {
         ensures nodes { Grows self.old.nodes.items self.new.nodes.items }
         ensures value { IfOk result (λ v. JoinedTo self.old.nodes.items self.new.nodes.items derivatives.now s v.items) }
     {
-        let mut list = Vec::new(heap);
+        let mut list = Vec::new(self.heap);
         for derivative in derivatives {
             let (label, content, rest) = *derivative;
             let tail = self.joined(rest, s)?;

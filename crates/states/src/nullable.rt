@@ -10,9 +10,11 @@ use crate::memo::Memo;
 use model::nodes::Node;
 use std::alloc::{AllocError, Global};
 
-// A book of expressions with the rules, and what is noted of nullability, which is right.
+// A book of expressions with the rules, and what is noted of nullability, which is right; and the
+// heap for what is made of them.
 #[derive(Drop)]
 pub struct Expressions {
+    pub heap: Global,
     pub nodes: Vec<Node>,
     pub rules: Rules,
     pub nulls: Memo<bool>,
@@ -35,6 +37,7 @@ impl Expressions {
     {
         let nulls = Memo::new(heap)?;
         Ok(Expressions {
+            heap,
             nodes,
             rules,
             nulls,

@@ -2,7 +2,6 @@
 use crate::error::Limit;
 use crate::nullable::Expressions;
 use model::nodes::Node;
-use std::alloc::Global;
 
 // Whether an unlawful mention of a rule is met from a node on, by the way taken to that node.
 #[derive(Clone, Copy, Default)]
@@ -97,13 +96,13 @@ impl Expressions {
     }
 
     // Whether the recursion of rule k is lawful.
-    fn is_lawful(&mut self, heap: Global, k: usize) -> Result<bool, Limit>
+    fn is_lawful(&mut self, k: usize) -> Result<bool, Limit>
         requires { k < vec_len self.old.rules.bodies }
         ensures value { IfOk result (λ b. b ≡ passes self.old.nodes.items self.old.rules.bodies.items k) }
         ensures nodes { self.new.nodes ≡ self.old.nodes }
         ensures rules { self.new.rules ≡ self.old.rules }
     {
-        let mut table = Vec::new(heap);
+        let mut table = Vec::new(self.heap);
         for _ in 0..self.nodes.len() {
             let ways = self.next_ways(table.as_slice(), k);
             table.push(ways)?;
@@ -113,13 +112,13 @@ impl Expressions {
     }
 
     // The first rule whose recursion is not lawful.
-    pub fn first_unlawful(&mut self, heap: Global) -> Result<Option<usize>, Limit>
+    pub fn first_unlawful(&mut self) -> Result<Option<usize>, Limit>
         ensures value { IfOk result (λ o. FirstUnlawful (body_of self.old.nodes.items self.old.rules.bodies.items) (vec_len self.old.rules.bodies) o) }
         ensures nodes { self.new.nodes ≡ self.old.nodes }
         ensures rules { self.new.rules ≡ self.old.rules }
     {
         for k in 0..self.rules.bodies.len() {
-            if !self.is_lawful(heap, k)? {
+            if !self.is_lawful(k)? {
                 return Ok(Some(k));
             }
         }
