@@ -3,3 +3,4 @@ pub mod Filling
 pub mod Deciding
 pub mod AllMet
 mod Looking
+pub mod Finding

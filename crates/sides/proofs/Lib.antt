@@ -5,3 +5,4 @@ pub mod Failing
 pub mod Gathering
 pub mod Sided
 pub mod Taking
+pub mod Walking

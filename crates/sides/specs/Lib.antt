@@ -2,3 +2,5 @@ pub mod View
 pub mod Steps
 pub mod Gathers
 pub mod Took
+pub mod Ors
+pub mod Left

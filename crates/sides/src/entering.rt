@@ -1,23 +1,16 @@
 // Taking an inequality: the sides of all its either-ors are entered in a book of rows, names rising,
 // derivatives of the left in order, subsets rising, the content side first.
-// The search for a refutation (`search`) goes the same way and stays apart: a walk that calls a
-// closure which fills the book tells a proof nothing of the book afterwards.
-ghost use Rattle.std.specs.Prelude.{◌≡◌, ◌^◌, ◌<◌, ◌≤◌, false, length};
+ghost use Rattle.std.specs.Prelude.{◌≡◌, ◌<◌, false};
 ghost use Rattle.std.specs.Result.{is_ok};
-ghost use Rattle.theory.specs.Count.{each};
 ghost use Rattle.theory.specs.Inequality.{same_row, wide as wide_row, of_name};
 ghost use Rattle.theory.specs.Meeting.{sides_of, sides};
 ghost use Rattle.book.specs.Feeding.{Fills};
-ghost use Rattle.sides.specs.Steps.{side_step, derivative_step};
 ghost use Rattle.sides.specs.View.{seen, names_of};
 ghost use Rattle.sides.specs.Took.{Took};
 ghost use Rattle.sides.specs.declared.entering.Stop.TheVariants.{OutOfRows};
 
-use crate::either::either_or;
-use crate::pairs::Pair;
 use crate::setting::Setting;
 use book::{Book, Full};
-use model::machine::Derivative;
 use model::rows::Row;
 
 // Why taking an inequality stops: it is wide, or one of its sides has no row.
@@ -35,66 +28,21 @@ impl From<Full> for Stop {
     }
 }
 
-// Enters both sides of one either-or.
-fn enter_subset(
-    derivative: Derivative,
-    pairs: &[Pair],
-    subset: usize,
-    book: &mut Book<'_, Row>,
-) -> Result<(), Full>
-    ensures { Fills same_row book.old book.new (side_step derivative pairs.now subset) (is_ok result) }
-{
-    let sides = either_or(derivative, pairs, subset);
-    book.put(sides.content)?;
-    book.put(sides.rest)
-}
-
-// Enters the sides of the either-ors of a derivative, one for each subset of the pairs.
-fn enter_subsets(
-    derivative: Derivative,
-    pairs: &[Pair],
-    book: &mut Book<'_, Row>,
-) -> Result<(), Full>
-    requires { length pairs.now ≤ 8 }
-    ensures { Fills same_row book.old book.new (each (2 ^ length pairs.now) (side_step derivative pairs.now)) (is_ok result) }
-{
-    for subset in 0..1 << pairs.len() {
-        enter_subset(derivative, pairs, subset, book)?;
-    }
-    Ok(())
-}
-
 impl Setting<'_> {
-    // Enters the sides of the either-ors of all derivatives of the state q whose label covers t, in
-    // order.
-    fn enter_derivatives(
-        &self,
-        t: usize,
-        q: usize,
-        pairs: &[Pair],
-        book: &mut Book<'_, Row>,
-    ) -> Result<(), Full>
-        requires { length pairs.now ≤ 8 }
-        ensures { Fills same_row book.old book.new (derivative_step (seen self.now) t q pairs.now) (is_ok result) }
-    {
-        for derivative in self.machine.derivatives(q) {
-            if self.covers.get(derivative.0, t) {
-                enter_subsets(*derivative, pairs, book)?;
-            }
-        }
-        Ok(())
-    }
-
     // Enters the sides of all either-ors of a row, which is not wide, under the name t.
     fn enter_name(&self, row: &Row, t: usize, book: &mut Book<'_, Row>) -> Result<(), Full>
         requires narrow { wide_row (seen self.now) row.now ≡ false }
         requires name { t < names_of self.now.covers.now }
         ensures { Fills same_row book.old book.new (sides_of (of_name (seen self.now) row.now t)) (is_ok result) }
     {
-        match self.labelled_pairs(row, t) {
-            Some(pairs) => self.enter_derivatives(t, row.left, &pairs, book),
-            None => Ok(()),
+        let Some(pairs) = self.labelled_pairs(row, t) else {
+            return Ok(());
+        };
+        for sides in self.either_ors(t, row.left, &pairs) {
+            book.put(sides.content)?;
+            book.put(sides.rest)?;
         }
+        Ok(())
     }
 
     // Enters the sides of all either-ors of a row, which is not wide.

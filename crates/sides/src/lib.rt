@@ -6,6 +6,7 @@ pub mod covers;
 pub mod either;
 pub mod entering;
 pub mod nullable;
+pub mod ors;
 pub mod pairs;
 pub mod setting;
 pub mod wide;
