@@ -27,6 +27,7 @@ impl<'a> Shape<'a> {
     pub(crate) fn read(word: Field<'a>, mut fields: Fields<'a>) -> Result<Shape<'a>, LineFault>
         ensures { seen node_of result ≡ node_in (view word.entry) fields.entry.line (fields_left fields.entry) }
     {
+        // A chain of words and no table of them: each takes its own number fields.
         if word.is(b"none") {
             fields.end()?;
             Ok(Shape::Nothing)
