@@ -1,6 +1,6 @@
 -- Entering list after list.
 use Rattle.std.proofs.Common.{◌≡◌, ℕ, zero, suc, ◌+◌, ◌<◌, ◌≤◌, Bool, true, false, cond, leb, List, [], ◌∷◌, ◌++◌, length, take, sym, refl, ap, ◌∙◌, subst, ⊎_elim, add-one, arith}
-use Rattle.std.proofs.lemmas.Bool.{cond-true, cond-false, le-leb, lt-leb, leb-true, leb-false, cases_eq}
+use Rattle.std.proofs.lemmas.Bool.{le-leb, lt-leb, leb-true, leb-false, cases_eq}
 use Rattle.std.proofs.lemmas.List.{take_all, append-nil, append_assoc, length-append, take-append-le, length-take}
 use Rattle.theory.specs.Count.{any, each, enter, entered}
 use Rattle.book.specs.declared.Book.{Book}
@@ -110,17 +110,6 @@ module _ {A : Type 0} (same : A → A → Bool) where
 
   pub fills_says : (b a : Book A) (xs : List A) (x y : Bool) → x ≡ y → Fills same b a xs x → Fills same b a xs y
   fills_says b a xs x y e = subst (λ v. Fills same b a xs v) e
-
-  pub fills_to : (b a a' : Book A) (xs : List A) (answer : Bool) → a' ≡ a → Fills same b a xs answer → Fills same b a' xs answer
-  fills_to b a a' xs answer e = subst (λ (k : Book A). Fills same b k xs answer) (sym e)
-
-  -- under a condition
-  pub fills_when : (b a : Book A) (test : Bool) (xs : List A) (answer : Bool) → test ≡ true →
-      Fills same b a xs answer → Fills same b a (cond test xs []) answer
-  fills_when b a test xs answer is = fills_as b a xs (cond test xs []) answer (sym (cond-true test xs [] is))
-
-  pub fills_unless : (b : Book A) (test : Bool) (xs : List A) → test ≡ false → Fills same b b (cond test xs []) true
-  fills_unless b test xs is = fills_as b b [] (cond test xs []) true (sym (cond-false test xs [] is)) (fills_none b)
 
   -- one list after another
   pub fills_more : (b m a : Book A) (xs ys : List A) (answer : Bool) → Fills same b m xs true → Fills same m a ys answer →

@@ -1,9 +1,9 @@
 -- The turns of a walk over either-ors.
-use Rattle.std.proofs.Common.{◌≡◌, ℕ, zero, suc, ◌+◌, ◌-◌, ◌^◌, ◌<◌, ◌≤◌, Bool, true, false, cond, List, [], ◌∷◌, ◌++◌, map, length, get_or, Some, sym, refl, ap, ap₂, ◌∙◌, add-one, append-nil, append_assoc, arith}
+use Rattle.std.proofs.Common.{◌≡◌, ℕ, zero, suc, ◌+◌, ◌-◌, ◌^◌, ◌<◌, Bool, true, false, cond, List, [], ◌∷◌, ◌++◌, map, length, get_or, Some, sym, refl, ap, ap₂, ◌∙◌, add-one, append-nil, append_assoc, arith}
 use Rattle.std.proofs.Math.Nat.{sub-zero}
 use Rattle.std.specs.Iterator.{MakesProgress, item_count}
 use Rattle.std.specs.List.{range_with_len}
-use Rattle.std.proofs.lemmas.Bool.{cond-true, cond-false}
+use Rattle.std.proofs.lemmas.Bool.{cond-true}
 use Rattle.model.specs.declared.rows.Row.{Row}
 use Rattle.model.specs.Machine.{Derivative, states_of, derivatives_at}
 use Rattle.std.proofs.lemmas.List.FromFn.{map-range_with_len_more}
@@ -29,21 +29,6 @@ module _ (covers : ℕ → ℕ → Bool) (t : ℕ) (ps : List Pair) (d : Derivat
       ap (λ l. l ++ ors covers t ps ds 0)
       (cond-true _ _ _ is ∙ ap (λ j. map (λ j. held (either_or d ps j)) (range_with_len k j)) more
       ∙ ap (λ l. held (either_or d ps k) ∷ l) (sym (cond-true _ _ [] is)))
-
-  -- a derivative whose label does not cover the name
-  pub ors_uncovered : covers d.0 t ≡ false → ors covers t ps (d ∷ ds) k ≡ ors covers t ps ds 0
-  ors_uncovered is = ap (λ l. l ++ ors covers t ps ds 0) (cond-false _ _ [] is)
-
-  -- a derivative all of whose subsets were given
-  pub ors_done : 2 ^ length ps ≤ k → ors covers t ps (d ∷ ds) k ≡ ors covers t ps ds 0
-  ors_done le =
-      let none : 2 ^ length ps - k ≡ 0 = omega arith in
-      ap (λ j. cond (covers d.0 t) (map (λ j. held (either_or d ps j)) (range_with_len k j)) [] ++ ors covers t ps ds 0) none
-      ∙ ap (λ l. l ++ ors covers t ps ds 0) (same (covers d.0 t))
-    where
-      same : (b : Bool) → cond {A = List Rattle.sides.specs.declared.either.EitherOr.EitherOr} b [] [] ≡ []
-      same true = refl
-      same false = refl
 
 -- an item that came leaves fewer
 pub progress : {S A : Type 0} (rest : S → List A) (s t : S) (x : A) → rest s ≡ x ∷ rest t →
