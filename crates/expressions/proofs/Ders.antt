@@ -1,9 +1,9 @@
 -- Derivatives by numbers: lists of them, and what the program computes node by node.
-use Rattle.std.proofs.Common.{◌≡◌, ℕ, suc, ◌+◌, ◌-◌, ◌<◌, ◌≤◌, Bool, true, false, cond, ◌&&◌, eqb, ltb, List, [], ◌∷◌, ◌++◌, map, length, get_or, take, drop, sym, refl, ap, ◌∙◌, subst, ap₂, ⊎_elim, arith}
+use Rattle.std.proofs.Common.{◌≡◌, ℕ, suc, ◌-◌, ◌<◌, ◌≤◌, Bool, true, false, cond, ◌&&◌, eqb, ltb, List, [], ◌∷◌, ◌++◌, map, length, get_or, take, drop, sym, refl, ap, ◌∙◌, subst, ap₂, ⊎_elim, arith}
 use native.Mathlib.Nat.{sub_self}
 use Rattle.std.proofs.Math.Bool.{and_assoc}
 use Rattle.std.proofs.lemmas.Bool.{cases_lt, cond-true, cond-false, lt-ltb, le-ltb, eq-eqb, eqb-true}
-use Rattle.std.proofs.lemmas.List.{get_or_past, drop_more, length-append, drop-append-le, take-append-le, length-drop, drop_at, take_all}
+use Rattle.std.proofs.lemmas.List.{get_or_past, length-append, drop-append-le, take-append-le, length-drop, drop_at, take_all}
 use Rattle.model.specs.declared.nodes.Node.{Node}
 use Rattle.model.specs.declared.nodes.Node.TheVariants.{Nothing, Empty, Simple, Rule, Element, Union, Seq, Star}
 use Rattle.model.specs.Machine.{Derivative}
@@ -25,14 +25,6 @@ use Rattle.expressions.proofs.Fine.{grows_tree, grows_long}
 use Rattle.expressions.proofs.Inject.{tree_once}
 
 -- parts of lists
-
-pub part_more : {A : Type 0} (xs : List A) (i to : ℕ) (d : A) → i < to → to ≤ length xs →
-    part xs i to ≡ get_or xs i d ∷ part xs (i + 1) to
-unfolding part
-part_more xs i to d lt le =
-    let inside : i < length xs = omega arith in
-    let size : to - i ≡ suc (to - (i + 1)) = omega arith in
-    ap₂ take size (drop_more xs i d inside)
 
 pub part_none : {A : Type 0} (xs : List A) (i : ℕ) → part xs i i ≡ []
 unfolding part

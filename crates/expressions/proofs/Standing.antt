@@ -1,6 +1,6 @@
 -- States as they are numbered, and what they stand for.
-use Rattle.std.proofs.Common.{◌≡◌, ℕ, zero, suc, ◌+◌, ◌-◌, ◌<◌, ◌≤◌, Bool, true, false, cond, eqb, List, [], ◌∷◌, ◌++◌, map, length, get_or, take, drop, sym, refl, ap, ◌∙◌, subst, ap₂, ⊎_elim, arith}
-use Rattle.std.proofs.lemmas.List.{length_push, length-append, length-map, get_or-map, get_or_append_left, get_or_push, get_or_past, get_or_default, drop_at, map_push, take_more, get_or-drop}
+use Rattle.std.proofs.Common.{◌≡◌, ℕ, zero, suc, ◌+◌, ◌<◌, ◌≤◌, Bool, true, false, cond, eqb, List, [], ◌∷◌, ◌++◌, map, length, get_or, sym, refl, ap, ◌∙◌, subst, ap₂, ⊎_elim, arith}
+use Rattle.std.proofs.lemmas.List.{length_push, length-map, get_or_append_left, get_or_push, get_or_past}
 use Rattle.std.proofs.lemmas.Bool.{cases_lt, cases_eq, false≢true, eq-eqb, eqb-true}
 use Rattle.model.specs.declared.nodes.Node.{Node}
 use Rattle.model.specs.Machine.{Derivative, Plain, no_state, nullable_at, derivatives_at}
@@ -19,7 +19,7 @@ use Rattle.expressions.specs.Numbers.{tree, null_at}
 use Rattle.book.specs.Place.{place}
 use Rattle.expressions.specs.Records.{same_number}
 use Rattle.expressions.specs.Fine.{Fine, Below, Grows, shown}
-use Rattle.expressions.specs.Derived.{part, as_trees, InBook, AllIn, ders_below, ders_at}
+use Rattle.expressions.specs.Derived.{as_trees, InBook, AllIn, ders_below, ders_at}
 use Rattle.expressions.specs.States.{named, Separate, Stated, AllStated, total}
 use Rattle.expressions.proofs.Fine.{grows_same, grows_by, grows_long, grows_at, place_is}
 use Rattle.expressions.proofs.Shown.{shown_at, below_at}
@@ -101,18 +101,6 @@ pub all_extends : (a b : List ℕ) (ds : List Derivative) → Grows a b → AllI
 unfolding AllIn
 all_extends a b ds e ok d m =
     let l = grows_long a b e in let p = (ok d m).0 in let q = (ok d m).1 in (omega arith, omega arith)
-
-pub part_push : (found : List Derivative) (from i : ℕ) → from ≤ i → i < length found →
-    part found from (i + 1) ≡ part found from i ++ get_or found i (0, 0, 0) ∷ []
-unfolding part
-part_push found from i le lt =
-    let size : (i + 1) - from ≡ (i - from) + 1 = omega arith in
-    let inside : i - from < length (drop from found) = omega (arith, Rattle.std.proofs.lemmas.List.length-drop from found) in
-    let there_at : from + (i - from) ≡ i = omega arith in
-    ap (λ n. take n (drop from found)) size
-    ∙ take_more (drop from found) (i - from) (0, 0, 0) inside
-    ∙ ap (λ d. take (i - from) (drop from found) ++ d ∷ [])
-    (get_or-drop from found (i - from) (0, 0, 0) ∙ ap (λ n. get_or found n (0, 0, 0)) there_at)
 
 pub map_map : {A B C : Type 0} (f : B → C) (g : A → B) (xs : List A) → map f (map g xs) ≡ map (λ x. f (g x)) xs
 map_map f g [] = refl

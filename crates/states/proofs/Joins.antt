@@ -1,5 +1,5 @@
 -- Joining something to the rests of derivatives.
-use Rattle.std.proofs.Common.{◌≡◌, ℕ, ◌+◌, ◌<◌, List, [], ◌∷◌, ◌++◌, map, length, get_or, take, IfOk, Ok, Err, vec_items, Result, sym, ap, ◌∙◌, subst, ap₂, arith}
+use Rattle.std.proofs.Common.{◌≡◌, ℕ, ◌+◌, ◌<◌, List, [], ◌∷◌, ◌++◌, map, length, get_or, take, IfOk, vec_items, Result, sym, ap, ◌∙◌, subst, ap₂, arith}
 use Rattle.std.proofs.lemmas.List.{take_more, map_push}
 use Rattle.model.specs.declared.nodes.Node.{Node}
 use Rattle.model.specs.declared.nodes.Node.TheVariants.{Seq}
@@ -10,7 +10,7 @@ use Rattle.meaning.specs.Functions as functions
 use Rattle.meaning.proofs.Members.{member_at}
 use Rattle.expressions.specs.Numbers.{tree}
 use Rattle.expressions.specs.Records.{same_node}
-use Rattle.expressions.specs.Fine.{PartsBelow, Fine, Below, Grows}
+use Rattle.expressions.specs.Fine.{Fine, Below, Grows}
 use Rattle.expressions.specs.Derived.{as_trees, InBook, AllIn}
 use Rattle.expressions.proofs.Fine.{grows_same, grows_on, grows_tree, grows_long, below_more}
 use Rattle.expressions.proofs.Inject.{tree_once}
@@ -23,13 +23,7 @@ use Rattle.states.specs.Memo.{notes, Says, Sound}
 use Rattle.states.specs.Read.{Numbered}
 use Rattle.states.specs.Derive.{JoinedTo}
 use Rattle.states.proofs.Memos.{notes_all}
-use Rattle.states.proofs.Reading.{enter_numbered, enter_made}
-
--- a book after a node was entered or was not
-pub entered_fine : (nodes after : List Node) (x : Node) (r : Result ℕ Limit) → Fine nodes → PartsBelow (length nodes) x →
-    Entered same_node 512 nodes x r after → Fine after × Grows nodes after
-entered_fine nodes after x (Ok i) fine parts e = let n = enter_numbered nodes after x i fine parts e in (n.0, n.1)
-entered_fine nodes after x (Err f) fine parts e = (subst Fine (sym e.0) fine, subst (Grows nodes) (sym e.0) (grows_same nodes))
+use Rattle.states.proofs.Reading.{enter_made}
 
 -- what is said of expressions stays as the book grows
 pub within_stays : (e : Expressions) (after : List Node) → Grows (vec_items e.nodes) after → Below (length after) (vec_items e.rules.bodies)

@@ -1,16 +1,17 @@
 -- The steps of reading a file into a book.
-use Rattle.std.proofs.Common.{◌≡◌, ℕ, ◌+◌, ◌<◌, ◌≤◌, List, [], ◌∷◌, ◌++◌, map, length, get_or, take, IfOk, Ok, Err, Result, sym, refl, ap, ◌∙◌, subst, ap₂, arith}
+use Rattle.std.proofs.Common.{◌≡◌, ℕ, ◌+◌, ◌<◌, ◌≤◌, List, [], ◌∷◌, ◌++◌, map, length, get_or, take, IfOk, Ok, Err, Result, vec_items, sym, refl, ap, ◌∙◌, subst, ap₂, arith, Bool, true, false, cond}
 use Rattle.std.proofs.lemmas.List.{take_more, map_push}
 use Rattle.model.specs.declared.nodes.Node.{Node}
-use Rattle.model.specs.declared.nodes.Node.TheVariants.{Nothing, Rule, Union, Seq}
+use Rattle.model.specs.declared.nodes.Node.TheVariants.{Union, Seq}
 use Rattle.theory.specs.Language.{Expr, none, rule, union, seq}
-use Rattle.theory.specs.Tree.{trees, of_node}
+use Rattle.theory.specs.Tree.{of_node}
 use Rattle.expressions.specs.Numbers.{tree}
 use Rattle.expressions.specs.Records.{same_node}
 use Rattle.expressions.specs.Fine.{PartsBelow, make, Founded, Distinct, Fine, Below, Grows, shown}
 use Rattle.expressions.proofs.Fine.{enter_holds, holds_tree, grows_tree, grows_same, grows_on, grows_long, below_more}
-use Rattle.expressions.proofs.Shown.{below_none, below_push, below_at, shown_at, shown_past, shown_more, shown_grows, trees_more, each_more}
+use Rattle.expressions.proofs.Shown.{below_none, below_push, below_at, shown_at, shown_past, shown_more, shown_grows, each_more}
 use Rattle.states.specs.declared.error.Limit.{Limit}
+use Rattle.states.specs.declared.places.Places.{Places}
 use Rattle.states.specs.Book.{Entered}
 use Rattle.states.specs.Read.{Numbered, Moved, StandFor, mentions}
 
@@ -24,6 +25,12 @@ pub enter_numbered : (nodes after : List Node) (x : Node) (i : ℕ) → Fine nod
 enter_numbered nodes after x i fine parts e =
     let held = enter_holds nodes x i after fine parts e.0 e.1 e.2 (e.3 fine.0) in
     (held.0, held.1, held.2, holds_tree nodes x i after parts held)
+
+-- a book after a node was entered or was not
+pub entered_fine : (nodes after : List Node) (x : Node) (r : Result ℕ Limit) → Fine nodes → PartsBelow (length nodes) x →
+    Entered same_node 512 nodes x r after → Fine after × Grows nodes after
+entered_fine nodes after x (Ok i) fine parts e = let n = enter_numbered nodes after x i fine parts e in (n.0, n.1)
+entered_fine nodes after x (Err f) fine parts e = (subst Fine (sym e.0) fine, subst (Grows nodes) (sym e.0) (grows_same nodes))
 
 pub enter_made : (nodes after : List Node) (x : Node) (r : Result ℕ Limit) → Fine nodes → PartsBelow (length nodes) x →
     Entered same_node 512 nodes x r after → IfOk r (λ i. Numbered nodes after i (make (tree nodes) x))
@@ -41,17 +48,10 @@ placed_old nodes places c i fine below lt e = (
 )
 
 -- a missing node
-pub placed_new : (nodes after : List Node) (places : List ℕ) (c : ℕ) (r : Result ℕ Limit) → Fine nodes →
-    length places ≤ c → Entered same_node 512 nodes Nothing r after →
-    IfOk r (λ i. Numbered nodes after i (get_or (shown nodes places) c none))
-placed_new nodes after places c r fine past e =
-    subst (λ x. IfOk r (λ i. Numbered nodes after i x)) (sym (shown_past nodes places c past))
-    (enter_made nodes after Nothing r fine tt e)
-
--- the book was added to in between
-pub below_then : (old mid : List Node) (places : List ℕ) (i : ℕ) (e : Expr) → Numbered old mid i e →
-    Below (length old) places → Below (length mid) places
-below_then old mid places i e p ok = below_more old mid places p.1 ok
+pub placed_new : (nodes after : List Node) (places : List ℕ) (c : ℕ) (r : Result ℕ Limit) → length places ≤ c →
+    IfOk r (λ i. Numbered nodes after i none) → IfOk r (λ i. Numbered nodes after i (get_or (shown nodes places) c none))
+placed_new nodes after places c r past n =
+    subst (λ x. IfOk r (λ i. Numbered nodes after i x)) (sym (shown_past nodes places c past)) n
 
 -- nodes of two parts
 two : (old mid new : List Node) (places : List ℕ) (a b i j : ℕ) → Below (length old) places →
@@ -94,17 +94,22 @@ unfolding shown
 stand_none nodes fine = (fine, below_none (length nodes), refl)
 
 -- the next node of the file
-pub next_node : (old mid new : List Node) (places : List ℕ) (file : List Node) (k i : ℕ) (x : Node) →
-    k < length file → StandFor old places (trees (take k file)) →
-    Moved old mid x (of_node (shown old places) (get_or file k Nothing)) →
-    Entered same_node 512 mid x (Ok i) new →
-    StandFor new (places ++ i ∷ []) (trees (take (k + 1) file))
-next_node old mid new places file k i x lt s m e =
-    let n = enter_numbered mid new x i m.0 m.2 e in
-    let whole : Numbered old new i (of_node (trees (take k file)) (get_or file k Nothing)) =
-    (n.0, grows_on old mid new m.1 n.1, n.2, n.3 ∙ m.3 ∙ ap (λ l. of_node l (get_or file k Nothing)) s.2) in
-    subst (StandFor new (places ++ i ∷ [])) (sym (trees_more file k lt))
-    (stand_more old new places i (trees (take k file)) (of_node (trees (take k file)) (get_or file k Nothing)) s whole)
+pub next_node : (old mid new : Places) (x node : Node) (i : ℕ) (after : List ℕ) → mid.places ≡ old.places → new.places ≡ mid.places →
+    Moved (vec_items old.nodes) (vec_items mid.nodes) x (of_node (shown (vec_items old.nodes) (vec_items old.places)) node) →
+    Numbered (vec_items mid.nodes) (vec_items new.nodes) i (make (tree (vec_items mid.nodes)) x) →
+    after ≡ vec_items new.places ++ i ∷ [] →
+    shown (vec_items new.nodes) after ≡
+    shown (vec_items old.nodes) (vec_items old.places) ++ of_node (shown (vec_items old.nodes) (vec_items old.places)) node ∷ []
+next_node old mid new x node i after p q m n pushed =
+    let places = ap (λ v. vec_items v) (q ∙ p) in
+    ap (shown (vec_items new.nodes)) (pushed ∙ ap (λ l. l ++ i ∷ []) places)
+    ∙ shown_more (vec_items old.nodes) (vec_items new.nodes) (vec_items old.places) i _
+    (grows_on (vec_items old.nodes) (vec_items mid.nodes) (vec_items new.nodes) m.1 n.1) old.below (n.3 ∙ m.3)
+
+-- a number more or not
+pub below_or_not : (n : ℕ) (numbers after : List ℕ) (i : ℕ) (b : Bool) → after ≡ cond b (numbers ++ i ∷ []) numbers → Below n numbers → i < n → Below n after
+below_or_not n numbers after i true e ok lt = subst (Below n) (sym e) (below_push n numbers i ok lt)
+below_or_not n numbers after i false e ok lt = subst (Below n) (sym e) ok
 
 -- the next body
 pub next_body : (first old new : List Node) (places bodies file : List ℕ) (k i : ℕ) → k < length file →
@@ -124,15 +129,25 @@ next_body first old new places bodies file k i lt below g s n =
 
 -- the next mention
 pub next_mention : (first old new : List Node) (numbers : List ℕ) (k i : ℕ) → Grows first old →
-    StandFor old numbers (mentions k) → Entered same_node 512 old (Rule k) (Ok i) new →
+    StandFor old numbers (mentions k) → Numbered old new i (rule k) →
     Grows first new × StandFor new (numbers ++ i ∷ []) (mentions (k + 1))
-next_mention first old new numbers k i g s e =
-    let n = enter_numbered old new (Rule k) i s.0 tt e in (
-      grows_on first old new g n.1,
-      subst (StandFor new (numbers ++ i ∷ [])) (sym (each_more k)) (stand_more old new numbers i (mentions k) (rule k) s n),
-    )
+next_mention first old new numbers k i g s n = (
+  grows_on first old new g n.1,
+  subst (StandFor new (numbers ++ i ∷ [])) (sym (each_more k)) (stand_more old new numbers i (mentions k) (rule k) s n),
+)
 
 -- what holds of the node that it is
 pub as_node : (old new : List Node) (x node n : Node) (es : List Expr) → node ≡ n → Moved old new x (of_node es n) →
     Moved old new x (of_node es node)
 as_node old new x node n es e m = subst (λ y. Moved old new x (of_node es y)) (sym e) m
+
+-- the numbers of the file's nodes stay below the length of the book
+pub places_stay : (p : Places) (after : List Node) → Grows (vec_items p.nodes) after → Below (length after) (vec_items p.places)
+places_stay p after g = below_more (vec_items p.nodes) after (vec_items p.places) g p.below
+
+-- a number by the places before
+pub same_places : (old mid new : Places) (c i : ℕ) → mid.places ≡ old.places →
+    Numbered (vec_items mid.nodes) (vec_items new.nodes) i (get_or (shown (vec_items mid.nodes) (vec_items mid.places)) c none) →
+    Numbered (vec_items mid.nodes) (vec_items new.nodes) i (get_or (shown (vec_items mid.nodes) (vec_items old.places)) c none)
+same_places old mid new c i same n =
+    subst (λ l. Numbered (vec_items mid.nodes) (vec_items new.nodes) i (get_or (shown (vec_items mid.nodes) l) c none)) (ap (λ v. vec_items v) same) n

@@ -9,4 +9,5 @@ mod grammar;
 mod joining;
 mod memo;
 mod nullable;
+mod places;
 mod recursion;

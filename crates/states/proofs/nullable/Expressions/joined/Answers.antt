@@ -1,7 +1,8 @@
 use Rattle.std.proofs.Common.{vec_items}
 use Rattle.model.specs.declared.nodes.Node.TheVariants.{Seq}
 use Rattle.expressions.proofs.Fine.{grows_same}
-use Rattle.states.proofs.Joins.{entered_fine, within_stays, blank_stays, sound_stays, joined_same, joined_new}
+use Rattle.states.proofs.Reading.{entered_fine}
+use Rattle.states.proofs.Joins.{within_stays, blank_stays, sound_stays, joined_same, joined_new}
 use Rattle.states.proofs.nullable.Expressions.joined.Goals as goal
 
 pub returns-then-rest-self-clause-nodes : goal.returns-then-rest-self-clause-nodes
