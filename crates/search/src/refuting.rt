@@ -33,7 +33,7 @@ impl MetRows<'_> {
     }
 
     // The first item over all either-ors under the name t, for a row that is not wide. (A `for`, here
-    // and below: no clause or lemma of std ties what `find_map` gives to the list that it goes over.)
+    // and below: with `find_map` the check leaves the result open, for its clause names no list.)
     fn of_name(&self, marks: &[Option<usize>], row: &Row, t: usize) -> Option<Item>
         requires narrow { wide_row (seen self.now.setting.now) row.now ≡ false }
         requires name { t < names_of self.now.setting.now.covers.now }
