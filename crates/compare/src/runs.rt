@@ -20,53 +20,38 @@ fn text_of(rt: &HostRuntime, call: Call<&str>) -> anyhow::Result<Vec<u8>> {
     }
 }
 
-/// Reads the calls of a script and the file of each, up to a line that is no call; true where there
-/// is none such.
-fn read_script<'a>(
-    rt: &HostRuntime,
-    script: &'a str,
-    calls: &mut Vec<Call<&'a str>>,
-    texts: &mut Vec<Vec<u8>>,
-) -> anyhow::Result<bool> {
+/// The calls of a script, each with the text of its file, up to a line that is no call.
+#[derive(Drop)]
+struct Script<'a> {
+    calls: Vec<(Call<&'a str>, Vec<u8>)>,
+    /// Whether each line is a call.
+    whole: bool,
+}
+
+/// Reads the calls of a script and the file of each.
+fn read_script<'a>(rt: &HostRuntime, script: &'a str) -> anyhow::Result<Script<'a>> {
+    let mut calls = Vec::new(rt.alloc());
     for line in script.lines() {
         let Ok(read) = read_line(line) else {
             eprintln!(rt; "this line is no call: {line}")?;
-            return Ok(false);
+            return Ok(Script {
+                calls,
+                whole: false,
+            });
         };
         if let Some(call) = read {
-            texts.push(text_of(rt, call)?)?;
-            calls.push(call)?;
+            calls.push((call, text_of(rt, call)?))?;
         }
     }
-    Ok(true)
+    Ok(Script { calls, whole: true })
 }
 
 /// A call of the script with the text of its file.
 fn with_text<'a>(call: Call<&str>, text: &'a [u8]) -> Call<&'a [u8]> {
     match call {
-        Call::Question {
-            left,
-            right,
-            rows,
-            items,
-        } => Call::Question {
-            left,
-            right,
-            rows,
-            items,
-        },
-        Call::Sheet { rows, items, .. } => Call::Sheet { text, rows, items },
-        Call::Member {
-            rule,
-            rows,
-            items,
-            ..
-        } => Call::Member {
-            rule,
-            text,
-            rows,
-            items,
-        },
+        Call::Question { left, right, lent } => Call::Question { left, right, lent },
+        Call::Sheet { lent, .. } => Call::Sheet { text, lent },
+        Call::Member { rule, lent, .. } => Call::Member { rule, text, lent },
         Call::Write { room } => Call::Write { room },
         Call::LookUp { left, right } => Call::LookUp { left, right },
         Call::Clear => Call::Clear,
@@ -171,11 +156,9 @@ fn replay_on(
     relation: Named,
     script: &str,
 ) -> anyhow::Result<bool> {
-    let mut spelled = Vec::new(rt.alloc());
-    let mut texts = Vec::new(rt.alloc());
-    let whole = read_script(rt, script, &mut spelled, &mut texts)?;
+    let script = read_script(rt, script)?;
     let mut calls = Vec::new(rt.alloc());
-    for (call, text) in spelled.iter().zip(texts.iter()) {
+    for (call, text) in &script.calls {
         calls.push(with_text(*call, text.as_slice()))?;
     }
     let entries = carry_out(rt.alloc(), grammar, &relation, calls.as_slice())?;
@@ -183,7 +166,7 @@ fn replay_on(
         show_reply(rt, entry)?;
         show_records(rt, entry)?;
     }
-    Ok(whole)
+    Ok(script.whole)
 }
 
 /// Replays a script on one register from new.

@@ -26,9 +26,9 @@ pub data Asked : Type 0 where
 
 -- what a call of the program asks
 abbrev pub asked : Call (Bor (List ℕ)) → Asked
-asked (code.Question l r m n) = question l r m n
-asked (code.Sheet text m n) = sheet text.now m n
-asked (code.Member k text m n) = member k text.now m n
+asked (code.Question l r lent) = question l r lent.rows lent.items
+asked (code.Sheet text lent) = sheet text.now lent.rows lent.items
+asked (code.Member k text lent) = member k text.now lent.rows lent.items
 asked (code.Write room) = write room
 asked (code.LookUp l r) = look_up l r
 asked code.Clear = clear

@@ -6,7 +6,7 @@ use model::rows::{Item, Row};
 use model::verdict::Verdict;
 use records::sheet::Sheet;
 use register::register::Register;
-use script::call::Call;
+use script::call::{Call, Lending};
 use search::answer::Answer;
 use std::alloc::{AllocError, Global};
 
@@ -34,17 +34,16 @@ fn plain(heap: Global, reply: Reply) -> Entry {
     }
 }
 
-/// The entry of a call that is lent rows and items in these numbers.
+/// The entry of a call that is lent so many rows and items.
 fn lending<F: FnOnce(&mut [Row], &mut [Item]) -> Reply>(
     heap: Global,
-    rows: usize,
-    items: usize,
+    lent: Lending,
     call: F,
 ) -> Result<Entry, AllocError>
     requires { F.IsAlwaysCallable call }
 {
-    let mut rows = vec![in heap; Row::blank(); rows.min(LENT)]?;
-    let mut items = vec![in heap; Item::blank(); items.min(LENT)]?;
+    let mut rows = vec![in heap; Row::blank(); lent.rows.min(LENT)]?;
+    let mut items = vec![in heap; Item::blank(); lent.items.min(LENT)]?;
     let reply = call(rows.as_mut_slice(), items.as_mut_slice());
     Ok(Entry {
         reply,
@@ -94,27 +93,17 @@ fn step(
     call: Call<&[u8]>,
 ) -> Result<Entry, AllocError> {
     match call {
-        Call::Question {
-            left,
-            right,
-            rows,
-            items,
-        } => lending(heap, rows, items, |rows, items| {
+        Call::Question { left, right, lent } => lending(heap, lent, |rows, items| {
             register
                 .question(left, right, rows, items)
                 .map_or_else(Reply::Refused, Reply::Answered)
         }),
-        Call::Sheet { text, rows, items } => lending(heap, rows, items, |rows, items| {
+        Call::Sheet { text, lent } => lending(heap, lent, |rows, items| {
             register
                 .sheet(text, rows, items)
                 .map_or_else(Reply::Declined, Reply::Accepted)
         }),
-        Call::Member {
-            rule,
-            text,
-            rows,
-            items,
-        } => lending(heap, rows, items, |rows, items| {
+        Call::Member { rule, text, lent } => lending(heap, lent, |rows, items| {
             register
                 .member(rule, text, rows, items)
                 .map_or_else(Reply::Refused, Reply::Tested)

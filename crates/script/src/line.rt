@@ -1,5 +1,5 @@
 //! The lines of a script.
-use crate::call::Call;
+use crate::call::{Call, Lending};
 use thiserror::Error;
 
 /// A line that is no call of the script's format.
@@ -22,47 +22,35 @@ fn number_first<'a>(list: &'a str) -> Option<(usize, &'a str)> {
 }
 
 /// `ROWS` or `ROWS,ITEMS`: as many items as rows where they are not given.
-fn counts(list: &str) -> Option<(usize, usize)> {
-    match list.split_once(',') {
-        None => {
-            let rows = number(list)?;
-            Some((rows, rows))
-        }
-        Some((rows, items)) => Some((number(rows)?, number(items)?)),
-    }
+fn counts(list: &str) -> Option<Lending> {
+    let (rows, items) = list.split_once(',').unwrap_or((list, list));
+    Some(Lending {
+        rows: number(rows)?,
+        items: number(items)?,
+    })
 }
 
 /// `A,B,ROWS[,ITEMS]`
 fn question<'a>(list: &'a str) -> Option<Call<&'a str>> {
     let (left, tail) = number_first(list)?;
     let (right, last) = number_first(tail)?;
-    let (rows, items) = counts(last)?;
-    Some(Call::Question {
-        left,
-        right,
-        rows,
-        items,
-    })
+    let lent = counts(last)?;
+    Some(Call::Question { left, right, lent })
 }
 
 /// `FILE,ROWS[,ITEMS]`
 fn sheet<'a>(list: &'a str) -> Option<Call<&'a str>> {
     let (text, last) = list.split_once(',')?;
-    let (rows, items) = counts(last)?;
-    Some(Call::Sheet { text, rows, items })
+    let lent = counts(last)?;
+    Some(Call::Sheet { text, lent })
 }
 
 /// `RULE,FILE,ROWS[,ITEMS]`
 fn member<'a>(list: &'a str) -> Option<Call<&'a str>> {
     let (rule, tail) = number_first(list)?;
     let (text, last) = tail.split_once(',')?;
-    let (rows, items) = counts(last)?;
-    Some(Call::Member {
-        rule,
-        text,
-        rows,
-        items,
-    })
+    let lent = counts(last)?;
+    Some(Call::Member { rule, text, lent })
 }
 
 /// `A,B`
