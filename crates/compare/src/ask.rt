@@ -161,7 +161,12 @@ fn tell_verdict(
             println!(rt;
                 "verdict: EXCLUDED. {left} can send a message that {right} does not accept:"
             )?;
-            tell_message(rt, register.basis.grammar, lent.items.as_slice(), sheet.records)?;
+            tell_message(
+                rt,
+                register.basis.grammar,
+                lent.items.as_slice(),
+                sheet.records,
+            )?;
         }
     }
     println!(rt; "rows met: {met}")?;

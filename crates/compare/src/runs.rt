@@ -20,30 +20,25 @@ fn text_of(rt: &HostRuntime, call: Call<&str>) -> anyhow::Result<Vec<u8>> {
     }
 }
 
-/// The calls of a script, each with the text of its file, up to a line that is no call.
-#[derive(Drop)]
-struct Script<'a> {
-    calls: Vec<(Call<&'a str>, Vec<u8>)>,
-    /// Whether each line is a call.
-    whole: bool,
-}
-
-/// Reads the calls of a script and the file of each.
-fn read_script<'a>(rt: &HostRuntime, script: &'a str) -> anyhow::Result<Script<'a>> {
-    let mut calls = Vec::new(rt.alloc());
+/// Reads the calls of a script and the text of each, up to a line that is no call; true where there is
+/// none such. (Two lists: the borrow checker does not cover a loop that borrows from pairs of both.)
+fn read_script<'a>(
+    rt: &HostRuntime,
+    script: &'a str,
+    calls: &mut Vec<Call<&'a str>>,
+    texts: &mut Vec<Vec<u8>>,
+) -> anyhow::Result<bool> {
     for line in script.lines() {
         let Ok(read) = read_line(line) else {
             eprintln!(rt; "this line is no call: {line}")?;
-            return Ok(Script {
-                calls,
-                whole: false,
-            });
+            return Ok(false);
         };
         if let Some(call) = read {
-            calls.push((call, text_of(rt, call)?))?;
+            texts.push(text_of(rt, call)?)?;
+            calls.push(call)?;
         }
     }
-    Ok(Script { calls, whole: true })
+    Ok(true)
 }
 
 /// A call of the script with the text of its file.
@@ -156,9 +151,11 @@ fn replay_on(
     relation: Named,
     script: &str,
 ) -> anyhow::Result<bool> {
-    let script = read_script(rt, script)?;
+    let mut spelled = Vec::new(rt.alloc());
+    let mut texts = Vec::new(rt.alloc());
+    let whole = read_script(rt, script, &mut spelled, &mut texts)?;
     let mut calls = Vec::new(rt.alloc());
-    for (call, text) in &script.calls {
+    for (call, text) in spelled.iter().zip(texts.iter()) {
         calls.push(with_text(*call, text.as_slice()))?;
     }
     let entries = carry_out(rt.alloc(), grammar, &relation, calls.as_slice())?;
@@ -166,7 +163,7 @@ fn replay_on(
         show_reply(rt, entry)?;
         show_records(rt, entry)?;
     }
-    Ok(script.whole)
+    Ok(whole)
 }
 
 /// Replays a script on one register from new.
