@@ -177,6 +177,7 @@ impl<'a> Judge<'a> {
             child: child.value()?,
             next: next.value()?,
         };
+        // an `if`, and not `ensure`: with it the goal at the refusal stays open
         if item_fits(self.names, count, item) {
             Ok(Step::Item(item))
         } else {
