@@ -8,7 +8,7 @@ use crate::places::Places;
 use model::nodes::Node;
 use std::alloc::Global;
 
-// At most so many expressions; as a number it stands for a missing one.
+// At most so many expressions.
 pub const EXPRESSIONS: usize = 512;
 
 // The numbers of the rules' bodies and of `empty`.

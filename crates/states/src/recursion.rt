@@ -103,6 +103,7 @@ impl Expressions {
         ensures rules { self.new.rules ≡ self.old.rules }
     {
         let mut table = Vec::new(self.heap);
+        // Kept a count: a loan of the nodes would last while each step takes `&mut self`.
         for _ in 0..self.nodes.len() {
             let ways = self.next_ways(table.as_slice(), k);
             table.push(ways)?;
