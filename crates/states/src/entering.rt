@@ -14,7 +14,8 @@ use std::alloc::Global;
 pub const DERIVATIVES: usize = 512;
 
 // Enters x in a book of at most `limit` records and gives its number. After an error the book is as
-// it was.
+// it was. (No `Book` of crate `book`: that one stands over lent memory, and this list grows while a
+// grammar is loaded. Both look a record up by `find`.)
 pub fn enter<T: PartialEq + Copy>(records: &mut Vec<T>, limit: usize, x: T) -> Result<usize, Limit>
     ensures { Entered T.eq limit records.old.items x result records.new.items }
 {
