@@ -28,7 +28,8 @@ fn covered_by<R: Relation>(
 }
 
 impl Covers {
-    // The table of a relation over the names of a grammar.
+    // The table of a relation over the names of a grammar. (A `for`: after `try_collect` the check leaves
+    // the result open.)
     pub fn fill<R: Relation>(
         heap: Global,
         relation: &R,

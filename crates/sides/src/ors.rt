@@ -4,7 +4,7 @@ ghost use Rattle.std.specs.Prelude.{◌≡◌, ◌≤◌, length};
 
 use crate::covers::Covers;
 use crate::either::{EitherOr, either_or};
-use crate::pairs::Pair;
+use crate::pairs::{Pair, Pairs};
 use crate::setting::Setting;
 use model::machine::Derivative;
 
@@ -50,14 +50,13 @@ impl Setting<'_> {
     ghost use Rattle.sides.specs.Left.{left_of};
 
     // The either-ors of the state q under the name t, with these pairs on the right.
-    pub fn either_ors<'a>(&'a self, t: usize, q: usize, pairs: &'a [Pair]) -> EitherOrs<'a>
-        requires { length pairs.now ≤ 8 }
-        ensures { left_of result ≡ ors (covers_of self.now.covers.now) t pairs.now (derivatives_at (states_of self.now.machine.now) q) 0 }
+    pub fn either_ors<'a>(&'a self, t: usize, q: usize, pairs: &'a Pairs) -> EitherOrs<'a>
+        ensures { left_of result ≡ ors (covers_of self.now.covers.now) t pairs.now.items (derivatives_at (states_of self.now.machine.now) q) 0 }
     {
         EitherOrs {
             covers: self.covers,
             t,
-            pairs,
+            pairs: pairs.as_slice(),
             derivatives: self.machine.derivatives(q),
             subset: 0,
         }

@@ -35,12 +35,10 @@ impl Setting<'_> {
         (0..self.covers.names()).any(|t| self.is_crowded(row, t))
     }
 
-    // The pairs on the right of a row, which is not wide, under the name t; None where no derivative
-    // of the left has a label that covers t.
+    // The pairs on the right of a row under the name t; None where no derivative of the left has a
+    // label that covers t, or there are more than eight, which makes the row wide.
     pub fn labelled_pairs(&self, row: &Row, t: usize) -> Option<Pairs>
-        requires narrow { wide_row (seen self.now) row.now ≡ false }
-        requires name { t < names_of self.now.covers.now }
-        ensures some { is_some result ≡ labelled_by (seen self.now) row.now.left t }
+        ensures some { wide_row (seen self.now) row.now ≡ false → t < names_of self.now.covers.now → is_some result ≡ labelled_by (seen self.now) row.now.left t }
         ensures all { IfSome result (λ pairs. pairs.items ≡ distinct_pairs (seen self.now) t row.now.right.bits) }
     {
         if self.is_labelled(row.left, t) {

@@ -14,7 +14,7 @@ returns-in_err-pairs c =
     c.from_residual.ensures
     ∙ sym (first_unless (derivative_count m c.args.row.now.left) (λ i. m.covers (derivative m c.args.row.now.left i).0 c.args.t)
     (λ i. first (2 ^ length ps) (of_subset c.args.self.now.rows.now c.args.marks.now c.args.t (derivative m c.args.row.now.left i) ps))
-    (sym c.in_err-pairs.ensures.some))
+    (sym (c.in_err-pairs.ensures.some c.requires.narrow c.requires.name)))
 
 pub loop-sides-preserved : goal.loop-sides-preserved
 loop-sides-preserved c =
@@ -34,7 +34,7 @@ returns-in-Some-item_of c =
     let is = ap left_of c.into_iter-sides-iterator.ensures.into_iter_gives ∙ c.either_ors-sides-items.ensures in
     sym (found_at f ys c.in-Some.sides (left_of c.next.new.self) c.in-Some-item_of.item c.loop-sides.invariant.none (sym c.item_of.ensures ∙ c.in-Some-item_of.is))
     ∙ ap (found f) all
-    ∙ name_found c.args.self.now.setting.now c.args.self.now.rows.now c.args.marks.now c.args.row.now c.args.t w c.deref.result.now is (c.deref.ensures.0 ∙ c.in_ok-pairs.ensures.all)
+    ∙ name_found c.args.self.now.setting.now c.args.self.now.rows.now c.args.marks.now c.args.row.now c.args.t w c.in_ok-pairs.pairs.items is c.in_ok-pairs.ensures.all
 
 pub returns : goal.returns
 returns c =
@@ -44,4 +44,4 @@ returns c =
     let all = sym (append-nil ys) ∙ ap (λ l. ys ++ l) (sym c.in-None.ensures.steps.0) ∙ c.loop-sides.invariant.rest in
     let is = ap left_of c.into_iter-sides-iterator.ensures.into_iter_gives ∙ c.either_ors-sides-items.ensures in
     sym c.loop-sides.invariant.none ∙ ap (found f) all
-    ∙ name_found c.args.self.now.setting.now c.args.self.now.rows.now c.args.marks.now c.args.row.now c.args.t w c.deref.result.now is (c.deref.ensures.0 ∙ c.in_ok-pairs.ensures.all)
+    ∙ name_found c.args.self.now.setting.now c.args.self.now.rows.now c.args.marks.now c.args.row.now c.args.t w c.in_ok-pairs.pairs.items is c.in_ok-pairs.ensures.all

@@ -12,7 +12,7 @@ use Rattle.sides.proofs.setting.Setting.enter_name.Goals as goal
 pub returns-in_default : goal.returns-in_default
 returns-in_default c =
     fills_as same_row c.args.book.now c.args.book.now [] _ true
-    (sym (name_none (seen c.args.self.now) c.args.row.now c.args.t (sym c.in_default.ensures.some))) (fills_none same_row c.args.book.now)
+    (sym (name_none (seen c.args.self.now) c.args.row.now c.args.t (sym (c.in_default.ensures.some c.requires.narrow c.requires.name)))) (fills_none same_row c.args.book.now)
 
 pub loop-sides-preserved : goal.loop-sides-preserved
 loop-sides-preserved c =
@@ -35,7 +35,7 @@ returns-in_err-put c =
     let is = ap left_of c.into_iter-sides-iterator.ensures.into_iter_gives ∙ c.either_ors-sides-items.ensures in
     fills_err c.args.book.now a _ c.from_residual.result c.from_residual.ensures.0
     (fills_as same_row c.args.book.now a _ _ false
-    (turn_rows ys e left (left_of c.into_iter-sides-iterator.result) all ∙ name_rows c.args.self.now c.args.row.now c.args.t c.into_iter-sides-iterator.result c.deref.result.now is (c.deref.ensures.0 ∙ c.in-Some.ensures.all))
+    (turn_rows ys e left (left_of c.into_iter-sides-iterator.result) all ∙ name_rows c.args.self.now c.args.row.now c.args.t c.into_iter-sides-iterator.result c.in-Some.pairs.items is c.in-Some.ensures.all)
     (fills_full same_row c.args.book.now a (rows_of ys ++ e.content ∷ []) (e.rest ∷ rows_of left)
     (fills_more same_row c.args.book.now c.loop-sides.book a (rows_of ys) (e.content ∷ []) false c.loop-sides.invariant.fills c.in_err-put.ensures)))
 
@@ -51,7 +51,7 @@ returns-in_err-put-2 c =
     fills_err c.args.book.now a _ c.from_residual-in_err-put-2.result c.from_residual-in_err-put-2.ensures.0
     (fills_as same_row c.args.book.now a _ _ false
     (append_assoc (rows_of ys ++ e.content ∷ []) (e.rest ∷ []) (rows_of left)
-    ∙ turn_rows ys e left (left_of c.into_iter-sides-iterator.result) all ∙ name_rows c.args.self.now c.args.row.now c.args.t c.into_iter-sides-iterator.result c.deref.result.now is (c.deref.ensures.0 ∙ c.in-Some.ensures.all))
+    ∙ turn_rows ys e left (left_of c.into_iter-sides-iterator.result) all ∙ name_rows c.args.self.now c.args.row.now c.args.t c.into_iter-sides-iterator.result c.in-Some.pairs.items is c.in-Some.ensures.all)
     (fills_full same_row c.args.book.now a ((rows_of ys ++ e.content ∷ []) ++ e.rest ∷ []) (rows_of left)
     (fills_more same_row c.args.book.now m a (rows_of ys ++ e.content ∷ []) (e.rest ∷ []) false
     (fills_more same_row c.args.book.now c.loop-sides.book m (rows_of ys) (e.content ∷ []) true c.loop-sides.invariant.fills c.in_ok-put.ensures)
@@ -63,5 +63,5 @@ returns c =
     let all = sym (append-nil ys) ∙ ap (λ l. ys ++ l) (sym c.in-None.ensures.steps.0) ∙ c.loop-sides.invariant.rest in
     let is = ap left_of c.into_iter-sides-iterator.ensures.into_iter_gives ∙ c.either_ors-sides-items.ensures in
     fills_as same_row c.args.book.now c.loop-sides.book _ _ true
-    (ap rows_of all ∙ name_rows c.args.self.now c.args.row.now c.args.t c.into_iter-sides-iterator.result c.deref.result.now is (c.deref.ensures.0 ∙ c.in-Some.ensures.all))
+    (ap rows_of all ∙ name_rows c.args.self.now c.args.row.now c.args.t c.into_iter-sides-iterator.result c.in-Some.pairs.items is c.in-Some.ensures.all)
     c.loop-sides.invariant.fills
