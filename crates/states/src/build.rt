@@ -68,6 +68,7 @@ fn states_of(work: &mut Work, numbers: &mut Vec<usize>) -> Result<Machine, Limit
 {
     let mut states = Vec::new(work.expressions.heap);
     let mut total = 0;
+    // Kept a count: the list of numbers grows while its states are made.
     while let Some(node) = numbers.get(states.len()).copied() {
         let state = state_of(work, numbers, node)?;
         let more = state.derivatives.len();

@@ -16,7 +16,8 @@ pub enum Limit {
     NoMemory,
 }
 
-// A rule mentions itself or a later rule in a way that is not lawful; or a limit was met.
+// A rule mentions itself or a later rule in a way that is not lawful; or a limit was met. The last
+// two cases are those of `Limit`, not held whole, since the caller matches one enum.
 #[derive(Clone, Copy, Debug, PartialEq, Eq, Error)]
 pub enum BuildError {
     #[error("rule {0} mentions itself or a later rule where recursion is not lawful")]

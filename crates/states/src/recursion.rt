@@ -31,9 +31,9 @@ impl Ways {
         ensures { result ≡ either_ways self other }
     {
         Ways {
-            free: self.free | other.free,
-            guarded: self.guarded | other.guarded,
-            bent: self.bent | other.bent,
+            free: self.free || other.free,
+            guarded: self.guarded || other.guarded,
+            bent: self.bent || other.bent,
         }
     }
 
@@ -48,9 +48,9 @@ impl Ways {
             right.guarded
         };
         Ways {
-            free: self.bent | free,
-            guarded: self.bent | right.guarded,
-            bent: self.bent | right.bent,
+            free: self.bent || free,
+            guarded: self.bent || right.guarded,
+            bent: self.bent || right.bent,
         }
     }
 
@@ -118,6 +118,7 @@ impl Expressions {
         ensures nodes { self.new.nodes ≡ self.old.nodes }
         ensures rules { self.new.rules ≡ self.old.rules }
     {
+        // Kept a count: the number of the rule is the answer.
         for k in 0..self.rules.bodies.len() {
             if !self.is_lawful(k)? {
                 return Ok(Some(k));
