@@ -12,7 +12,7 @@ use model::machine::Derivative;
 use model::rows::Row;
 use sides::covers::Covers;
 use sides::either::either_or;
-use sides::pairs::Pair;
+use sides::pairs::{Pair, Pairs};
 use sides::setting::Setting;
 
 /// How many subsets of that many pairs there are; none where the label does not cover t.
@@ -43,7 +43,7 @@ pub fn find_gap(setting: &Setting<'_>, grounds: &Grounds<'_>, row: &Row) -> Opti
             if !setting.is_labelled(row.left, name) {
                 continue;
             }
-            let pairs = setting.first_pairs(name, &row.right);
+            let pairs: Pairs = setting.first_pairs(name, &row.right);
             for (i, derivative) in derivatives.iter().enumerate() {
                 for subset in 0..subsets(setting.covers, name, derivative.0, pairs.len()) {
                     if is_unshown(grounds, *derivative, &pairs, subset) {

@@ -1,5 +1,5 @@
 -- A refusal that a `?` passes on.
-use Rattle.std.proofs.Common.{◌≡◌, false, List, Result, Ok, Err, IsErr, refl, sym}
+use Rattle.std.proofs.Common.{◌≡◌, ℕ, false, List, Result, Ok, Err, IsErr, refl, sym}
 use Rattle.std.specs.Result.{is_ok}
 use Rattle.model.specs.declared.rows.Row.{Row}
 use Rattle.theory.specs.Inequality.{Pair, same_row}
@@ -17,5 +17,5 @@ pub fills_err : {E : Type 0} (b a : Book Row) (xs : List Row) (r : Result Unit E
     Fills same_row b a xs (is_ok r)
 fills_err b a xs r is = fills_says same_row b a xs false (is_ok r) (sym (not_ok r is))
 
-pub gather_err : {b a xs : List Pair} {E : Type 0} (r : Result Unit E) → IsErr r → Gathers b a xs false → Gathers b a xs (is_ok r)
+pub gather_err : {limit : ℕ} {b a xs : List Pair} {E : Type 0} (r : Result Unit E) → IsErr r → Gathers limit b a xs false → Gathers limit b a xs (is_ok r)
 gather_err r is = gather_as refl (sym (not_ok r is))

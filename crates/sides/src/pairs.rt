@@ -19,18 +19,18 @@ pub type Pair = (usize, usize);
 // An inequality that has more pairs than this under a name is wide.
 pub const MOST_PAIRS: usize = 8;
 
-// Distinct pairs.
+// Distinct pairs, at most eight.
 pub type Pairs = ArrayVec<Pair, MOST_PAIRS>;
 
 impl Setting<'_> {
     // Enters the pair of a derivative if its label covers t.
-    fn enter_pair(
+    fn enter_pair<const N: usize>(
         &self,
         t: usize,
         derivative: Derivative,
-        pairs: &mut Pairs,
+        pairs: &mut ArrayVec<Pair, N>,
     ) -> Result<(), CapacityError<Pair>>
-        ensures { Gathers pairs.old.items pairs.new.items (pair_of (covers_of self.now.covers.now) t derivative) (is_ok result) }
+        ensures { Gathers N pairs.old.items pairs.new.items (pair_of (covers_of self.now.covers.now) t derivative) (is_ok result) }
     {
         let (label, content, rest) = derivative;
         if !self.covers.get(label, t) {
@@ -44,8 +44,13 @@ impl Setting<'_> {
     }
 
     // Enters the pairs of the derivatives of the state q whose label covers t, in order.
-    fn enter_state(&self, t: usize, q: usize, pairs: &mut Pairs) -> Result<(), CapacityError<Pair>>
-        ensures { Gathers pairs.old.items pairs.new.items (pairs_of (seen self.now) t q) (is_ok result) }
+    fn enter_state<const N: usize>(
+        &self,
+        t: usize,
+        q: usize,
+        pairs: &mut ArrayVec<Pair, N>,
+    ) -> Result<(), CapacityError<Pair>>
+        ensures { Gathers N pairs.old.items pairs.new.items (pairs_of (seen self.now) t q) (is_ok result) }
     {
         for derivative in self.machine.derivatives(q) {
             self.enter_pair(t, *derivative, pairs)?;
@@ -54,13 +59,13 @@ impl Setting<'_> {
     }
 
     // Enters the pairs of all states of the set, by rising state.
-    fn enter_set(
+    fn enter_set<const N: usize>(
         &self,
         t: usize,
         set: &StateSet,
-        pairs: &mut Pairs,
+        pairs: &mut ArrayVec<Pair, N>,
     ) -> Result<(), CapacityError<Pair>>
-        ensures { Gathers pairs.old.items pairs.new.items (all_pairs (seen self.now) t set.now.bits) (is_ok result) }
+        ensures { Gathers N pairs.old.items pairs.new.items (all_pairs (seen self.now) t set.now.bits) (is_ok result) }
     {
         for q in 0..self.machine.count() {
             if set.contains(q) {
@@ -70,21 +75,21 @@ impl Setting<'_> {
         Ok(())
     }
 
-    // The distinct pairs of the set under the name t, or None where there are more than eight.
-    pub fn pairs(&self, t: usize, set: &StateSet) -> Option<Pairs>
-        ensures few { is_some result ≡ nat_le (length (distinct_pairs (seen self.now) t set.now.bits)) 8 }
+    // The distinct pairs of the set under the name t, or None where there are more than N.
+    pub fn pairs<const N: usize>(&self, t: usize, set: &StateSet) -> Option<ArrayVec<Pair, N>>
+        ensures few { is_some result ≡ nat_le (length (distinct_pairs (seen self.now) t set.now.bits)) N }
         ensures all { IfSome result (λ pairs. pairs.items ≡ distinct_pairs (seen self.now) t set.now.bits) }
     {
-        let mut pairs = Pairs::new();
+        let mut pairs = ArrayVec::new();
         self.enter_set(t, set, &mut pairs).ok()?;
         Some(pairs)
     }
 
-    // The first eight distinct pairs of the set under the name t; all of them, unless there are more.
-    pub fn first_pairs(&self, t: usize, set: &StateSet) -> Pairs
-        ensures { result.items ≡ take 8 (distinct_pairs (seen self.now) t set.now.bits) }
+    // The first N distinct pairs of the set under the name t; all of them, unless there are more.
+    pub fn first_pairs<const N: usize>(&self, t: usize, set: &StateSet) -> ArrayVec<Pair, N>
+        ensures { result.items ≡ take N (distinct_pairs (seen self.now) t set.now.bits) }
     {
-        let mut pairs = Pairs::new();
+        let mut pairs = ArrayVec::new();
         let _ = self.enter_set(t, set, &mut pairs);
         pairs
     }

@@ -6,7 +6,7 @@ ghost use Rattle.theory.specs.Inequality.{wide as wide_row, pairs as distinct_pa
 ghost use Rattle.sides.specs.Steps.{labelled_by};
 ghost use Rattle.sides.specs.View.{seen, names_of};
 
-use crate::pairs::Pairs;
+use crate::pairs::{MOST_PAIRS, Pairs};
 use crate::setting::Setting;
 use model::rows::Row;
 
@@ -25,7 +25,7 @@ impl Setting<'_> {
     fn is_crowded(&self, row: &Row, t: usize) -> bool
         ensures { result ≡ (labelled_by (seen self.now) row.now.left t && nat_lt 8 (length (distinct_pairs (seen self.now) t row.now.right.bits))) }
     {
-        self.is_labelled(row.left, t) && self.pairs(t, &row.right).is_none()
+        self.is_labelled(row.left, t) && self.pairs::<MOST_PAIRS>(t, &row.right).is_none()
     }
 
     // Whether the inequality is wide.

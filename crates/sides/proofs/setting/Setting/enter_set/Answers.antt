@@ -9,7 +9,7 @@ use Rattle.sides.proofs.setting.Setting.enter_set.Goals as goal
 use Rattle.sides.proofs.setting.Setting.enter_set.Goals.{then-contains+in_ok-enter_state, else-contains}
 
 pub loop-q-preserved : goal.loop-q-preserved
-loop-q-preserved c =
+loop-q-preserved g c =
     let m = seen c.args.self.now in
     gather_turn c.args.pairs.now.items c.loop-q.pairs.items c.if-contains.pairs.items (state_step m c.args.t c.args.set.now.bits) c.loop-q.q
     c.loop-q.invariant
@@ -22,7 +22,7 @@ loop-q-preserved c =
 
 pub returns-in_err-enter_state : goal.returns-in_err-enter_state
 unfolding all_pairs
-returns-in_err-enter_state c =
+returns-in_err-enter_state g c =
     let m = seen c.args.self.now in
     let lt : c.loop-q.q < length m.states = omega (arith, c.count-q-end.ensures) in
     gather_err c.from_residual.result c.from_residual.ensures.0
@@ -32,7 +32,7 @@ returns-in_err-enter_state c =
 
 pub returns : goal.returns
 unfolding all_pairs
-returns c =
+returns g c =
     let m = seen c.args.self.now in
     let le : c.loop-q.q ≤ length m.states = omega (arith, c.count-q-end.ensures) in
     let ge : length m.states ≤ c.loop-q.q = omega (arith, c.count-q-end.ensures) in

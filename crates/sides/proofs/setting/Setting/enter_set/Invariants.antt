@@ -6,4 +6,4 @@ use Rattle.sides.specs.Steps.{state_step}
 use Rattle.sides.proofs.setting.Setting.enter_set.Given as goal
 
 abbrev pub invariant-loop-q : goal.invariant-loop-q
-invariant-loop-q l = Gathers l.initial.pairs.items l.pairs.items (each l.q (state_step (seen l.self) l.t l.set.bits)) true
+invariant-loop-q g l = Gathers g.row.N l.initial.pairs.items l.pairs.items (each l.q (state_step (seen l.self) l.t l.set.bits)) true

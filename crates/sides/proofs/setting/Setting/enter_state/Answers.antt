@@ -8,7 +8,7 @@ use Rattle.sides.proofs.Gathering.{gather_as, gather_turn, gather_stop, gather_e
 use Rattle.sides.proofs.setting.Setting.enter_state.Goals as goal
 
 pub loop-derivative-preserved : goal.loop-derivative-preserved
-loop-derivative-preserved c =
+loop-derivative-preserved g c =
     let m = seen c.args.self.now in
     gather_turn c.args.pairs.now.items c.loop-derivative.pairs.items c.enter_pair.new.pairs.items (pair_step m c.args.t c.args.q) c.loop-derivative.derivative-index
     c.loop-derivative.invariant
@@ -17,7 +17,7 @@ loop-derivative-preserved c =
 
 pub returns-in_err-enter_pair : goal.returns-in_err-enter_pair
 unfolding pairs_of
-returns-in_err-enter_pair c =
+returns-in_err-enter_pair g c =
     let m = seen c.args.self.now in
     let lt : c.loop-derivative.derivative-index < derivative_count m c.args.q = omega (arith, ap length c.derivatives-derivative-items.ensures) in
     gather_err c.from_residual.result c.from_residual.ensures.0
@@ -28,7 +28,7 @@ returns-in_err-enter_pair c =
 
 pub returns : goal.returns
 unfolding pairs_of
-returns c =
+returns g c =
     let m = seen c.args.self.now in
     let le : c.loop-derivative.derivative-index ≤ derivative_count m c.args.q = omega (arith, ap length c.derivatives-derivative-items.ensures) in
     let ge : derivative_count m c.args.q ≤ c.loop-derivative.derivative-index = omega (arith, ap length c.derivatives-derivative-items.ensures) in

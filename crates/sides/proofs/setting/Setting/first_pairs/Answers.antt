@@ -4,4 +4,4 @@ use Rattle.sides.proofs.setting.Setting.first_pairs.Goals as goal
 
 pub returns : goal.returns
 unfolding pairs
-returns c = first_gathered _ _ _ _ c.new-pairs.ensures c.enter_set.ensures
+returns g c = first_gathered _ _ _ _ c.new-pairs.ensures c.enter_set.ensures
