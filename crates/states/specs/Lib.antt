@@ -2,6 +2,7 @@ pub mod Fault
 pub mod Blank
 pub mod Book
 pub mod Memo
+pub mod Kept
 pub mod Test
 pub mod Read
 pub mod Spans

@@ -27,6 +27,7 @@ pub struct Expressions {
 impl Expressions {
     ghost use Rattle.std.specs.Prelude.{◌≡◌, IfOk};
     ghost use Rattle.expressions.specs.Numbers.{null_at};
+    ghost use Rattle.states.specs.Kept.{SameBook};
 
     // The expressions with nothing noted.
     pub fn new(heap: Global, nodes: Vec<Node>, rules: Rules) -> Result<Expressions, AllocError>
@@ -48,8 +49,7 @@ impl Expressions {
     // into that rule's body.
     pub fn nullable(&mut self, rule: usize, node: usize) -> bool
         ensures value { result ≡ null_at self.old.nodes.items self.old.rules.bodies.items rule node }
-        ensures nodes { self.new.nodes ≡ self.old.nodes }
-        ensures rules { self.new.rules ≡ self.old.rules }
+        ensures kept { SameBook self.old self.new }
     {
         if node >= self.nodes.len() {
             return false;

@@ -69,6 +69,7 @@ impl Ways {
 impl Expressions {
     ghost use Rattle.std.specs.Prelude.{◌≡◌, ◌<◌, IfOk, length, vec_len};
     ghost use Rattle.theory.specs.Tree.{body_of};
+    ghost use Rattle.states.specs.Kept.{SameBook};
     ghost use Rattle.states.specs.Test.{ways_from, Filled, passes, FirstUnlawful};
 
     // The ways of rule k from the next node on, given those of the nodes before it.
@@ -76,8 +77,7 @@ impl Expressions {
         requires next { length table.now < length self.old.nodes.items }
         requires filled { Filled self.old.nodes.items self.old.rules.bodies.items k table.now }
         ensures value { result ≡ ways_from self.old.nodes.items self.old.rules.bodies.items k (length table.now) }
-        ensures nodes { self.new.nodes ≡ self.old.nodes }
-        ensures rules { self.new.rules ≡ self.old.rules }
+        ensures kept { SameBook self.old self.new }
     {
         match self.nodes[table.len()] {
             Node::Nothing | Node::Empty | Node::Simple(_) | Node::Element(_, _) => Ways::default(),
@@ -99,8 +99,7 @@ impl Expressions {
     fn is_lawful(&mut self, k: usize) -> Result<bool, Limit>
         requires { k < vec_len self.old.rules.bodies }
         ensures value { IfOk result (λ b. b ≡ passes self.old.nodes.items self.old.rules.bodies.items k) }
-        ensures nodes { self.new.nodes ≡ self.old.nodes }
-        ensures rules { self.new.rules ≡ self.old.rules }
+        ensures kept { SameBook self.old self.new }
     {
         let mut table = Vec::new(self.heap);
         // Kept a count: a loan of the nodes would last while each step takes `&mut self`.
@@ -115,8 +114,7 @@ impl Expressions {
     // The first rule whose recursion is not lawful.
     pub fn first_unlawful(&mut self) -> Result<Option<usize>, Limit>
         ensures value { IfOk result (λ o. FirstUnlawful (body_of self.old.nodes.items self.old.rules.bodies.items) (vec_len self.old.rules.bodies) o) }
-        ensures nodes { self.new.nodes ≡ self.old.nodes }
-        ensures rules { self.new.rules ≡ self.old.rules }
+        ensures kept { SameBook self.old self.new }
     {
         // Kept a count: the number of the rule is the answer.
         for k in 0..self.rules.bodies.len() {

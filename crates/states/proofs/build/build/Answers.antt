@@ -25,7 +25,7 @@ states_of-requires c =
     let first = vec_items g.mentions in
     let named = mention_count nodes first (length c.args.bodies.now) read.mentions_are in
     let same = ap (λ (e : Expressions). vec_items e.nodes) c.in_ok-work.ensures
-    ∙ ap (λ v. vec_items v) (c.first_unlawful.ensures.nodes ∙ c.in_ok-expressions.ensures.0) in (
+    ∙ ap (λ v. vec_items v) (c.first_unlawful.ensures.kept.nodes ∙ c.in_ok-expressions.ensures.0) in (
       mentions_separate nodes first (length c.args.bodies.now) read.mentions_are,
       omega arith,
       subst (λ l. Below (length l) first) (sym same) read.mentions_in,
@@ -42,6 +42,6 @@ returns c =
     (first_read g e c.in_ok-k.field-0 same.0 same.1 c.in_ok-k.ensures.value) in
     let done = c.in_ok-machine.ensures in
     built c.args.nodes.now c.args.bodies.now g w _ _ c.in_ok-machine.machine read lawful
-    (ap (λ (x : Expressions). x.nodes) c.in_ok-work.ensures ∙ c.first_unlawful.ensures.nodes ∙ same.0)
-    (ap (λ (x : Expressions). x.rules) c.in_ok-work.ensures ∙ c.first_unlawful.ensures.rules ∙ same.1)
+    (ap (λ (x : Expressions). x.nodes) c.in_ok-work.ensures ∙ c.first_unlawful.ensures.kept.nodes ∙ same.0)
+    (ap (λ (x : Expressions). x.rules) c.in_ok-work.ensures ∙ c.first_unlawful.ensures.kept.rules ∙ same.1)
     done.so_far done.count

@@ -6,7 +6,7 @@ use Rattle.states.proofs.derive.Work.nullable.Goals as goal
 
 pub returns-clause-goes : goal.returns-clause-goes
 returns-clause-goes c = record {
-  rules = c.nullable.ensures.rules;
-  nodes = subst (Grows (nodes_of c.args.self.now)) (ap (λ v. vec_items v) (sym c.nullable.ensures.nodes)) (grows_same (nodes_of c.args.self.now));
+  rules = c.nullable.ensures.kept.rules;
+  nodes = subst (Grows (nodes_of c.args.self.now)) (ap (λ v. vec_items v) (sym c.nullable.ensures.kept.nodes)) (grows_same (nodes_of c.args.self.now));
   found = grows_same (found_of c.args.self.now);
 }

@@ -95,29 +95,29 @@ told_in t c =
       | in-Rule+in-Some-body_below w ↦
           let at = body_is (vec_items old.rules.bodies) w.in-Rule.k r w.in-Some-body_below.body w.in-Some-body_below.ensures in
           by w.nullable.new.self w.nullable.result (Rule w.in-Rule.k) w.self-is w.answer-is
-          w.nullable.ensures.nodes w.nullable.ensures.rules w.in-Rule.is
+          w.nullable.ensures.kept.nodes w.nullable.ensures.kept.rules w.in-Rule.is
           (w.nullable.ensures.value ∙ ap (null_in old w.in-Rule.k) at.1 ∙ sym (cond-true _ _ _ (lt-ltb w.in-Rule.k r at.0)))
       | in-Rule+in-None w ↦ by old false (Rule w.in-Rule.k) w.self-is w.answer-is refl refl w.in-Rule.is
           (null_missing old r i w.in-Rule.k w.in-None.ensures)
       | in-Union+then-left w ↦ by w.nullable-right.new.self w.nullable-left.result (Union w.in-Union.a w.in-Union.b) w.self-is w.answer-is
-          (w.nullable-right.ensures.nodes ∙ w.nullable-left.ensures.nodes) (w.nullable-right.ensures.rules ∙ w.nullable-left.ensures.rules) w.in-Union.is
+          (w.nullable-right.ensures.kept.nodes ∙ w.nullable-left.ensures.kept.nodes) (w.nullable-right.ensures.kept.rules ∙ w.nullable-left.ensures.kept.rules) w.in-Union.is
           (or_then w.nullable-left.result _ (null_in old r (earlier i w.in-Union.b))
           (at_part old old r i w.in-Union.a w.nullable-left.result refl refl w.nullable-left.ensures.value (below (Union w.in-Union.a w.in-Union.b) w.in-Union.is).0)
           w.if-left.true)
       | in-Union+else-left w ↦ by w.nullable-right.new.self w.nullable-right.result (Union w.in-Union.a w.in-Union.b) w.self-is w.answer-is
-          (w.nullable-right.ensures.nodes ∙ w.nullable-left.ensures.nodes) (w.nullable-right.ensures.rules ∙ w.nullable-left.ensures.rules) w.in-Union.is
+          (w.nullable-right.ensures.kept.nodes ∙ w.nullable-left.ensures.kept.nodes) (w.nullable-right.ensures.kept.rules ∙ w.nullable-left.ensures.kept.rules) w.in-Union.is
           (or_else w.nullable-left.result w.nullable-right.result _ _
           (at_part old old r i w.in-Union.a w.nullable-left.result refl refl w.nullable-left.ensures.value (below (Union w.in-Union.a w.in-Union.b) w.in-Union.is).0)
           w.if-left.false
-          (at_part old w.nullable-left.new.self r i w.in-Union.b w.nullable-right.result w.nullable-left.ensures.nodes w.nullable-left.ensures.rules w.nullable-right.ensures.value (below (Union w.in-Union.a w.in-Union.b) w.in-Union.is).1))
+          (at_part old w.nullable-left.new.self r i w.in-Union.b w.nullable-right.result w.nullable-left.ensures.kept.nodes w.nullable-left.ensures.kept.rules w.nullable-right.ensures.value (below (Union w.in-Union.a w.in-Union.b) w.in-Union.is).1))
       | in-Seq+then-left-2 w ↦ by w.nullable-right-in-Seq.new.self w.nullable-right-in-Seq.result (Seq w.in-Seq.a w.in-Seq.b) w.self-is w.answer-is
-          (w.nullable-right-in-Seq.ensures.nodes ∙ w.nullable-left-in-Seq.ensures.nodes) (w.nullable-right-in-Seq.ensures.rules ∙ w.nullable-left-in-Seq.ensures.rules) w.in-Seq.is
+          (w.nullable-right-in-Seq.ensures.kept.nodes ∙ w.nullable-left-in-Seq.ensures.kept.nodes) (w.nullable-right-in-Seq.ensures.kept.rules ∙ w.nullable-left-in-Seq.ensures.kept.rules) w.in-Seq.is
           (and_then w.nullable-left-in-Seq.result w.nullable-right-in-Seq.result _ _
           (at_part old old r i w.in-Seq.a w.nullable-left-in-Seq.result refl refl w.nullable-left-in-Seq.ensures.value (below (Seq w.in-Seq.a w.in-Seq.b) w.in-Seq.is).0)
           w.if-left-2.true
-          (at_part old w.nullable-left-in-Seq.new.self r i w.in-Seq.b w.nullable-right-in-Seq.result w.nullable-left-in-Seq.ensures.nodes w.nullable-left-in-Seq.ensures.rules w.nullable-right-in-Seq.ensures.value (below (Seq w.in-Seq.a w.in-Seq.b) w.in-Seq.is).1))
+          (at_part old w.nullable-left-in-Seq.new.self r i w.in-Seq.b w.nullable-right-in-Seq.result w.nullable-left-in-Seq.ensures.kept.nodes w.nullable-left-in-Seq.ensures.kept.rules w.nullable-right-in-Seq.ensures.value (below (Seq w.in-Seq.a w.in-Seq.b) w.in-Seq.is).1))
       | in-Seq+else-left-2 w ↦ by w.nullable-right-in-Seq.new.self w.nullable-left-in-Seq.result (Seq w.in-Seq.a w.in-Seq.b) w.self-is w.answer-is
-          (w.nullable-right-in-Seq.ensures.nodes ∙ w.nullable-left-in-Seq.ensures.nodes) (w.nullable-right-in-Seq.ensures.rules ∙ w.nullable-left-in-Seq.ensures.rules) w.in-Seq.is
+          (w.nullable-right-in-Seq.ensures.kept.nodes ∙ w.nullable-left-in-Seq.ensures.kept.nodes) (w.nullable-right-in-Seq.ensures.kept.rules ∙ w.nullable-left-in-Seq.ensures.kept.rules) w.in-Seq.is
           (and_else w.nullable-left-in-Seq.result _ (null_in old r (earlier i w.in-Seq.b))
           (at_part old old r i w.in-Seq.a w.nullable-left-in-Seq.result refl refl w.nullable-left-in-Seq.ensures.value (below (Seq w.in-Seq.a w.in-Seq.b) w.in-Seq.is).0)
           w.if-left-2.false)

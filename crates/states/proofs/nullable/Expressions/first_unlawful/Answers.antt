@@ -18,7 +18,7 @@ loop-k-preserved c =
     let told : true ≡ passes (vec_items old.nodes) (vec_items old.rules.bodies) c.loop-k.k =
     sym c.if-not-branch.false ∙ c.in_ok-is_lawful.ensures.value ∙ same_passes old c.loop-k.self c.loop-k.k inv.nodes inv.rules in
     record {
-      nodes = c.is_lawful.ensures.nodes ∙ inv.nodes;
-      rules = c.is_lawful.ensures.rules ∙ inv.rules;
+      nodes = c.is_lawful.ensures.kept.nodes ∙ inv.nodes;
+      rules = c.is_lawful.ensures.kept.rules ∙ inv.rules;
       lawful = rules_more (vec_items old.nodes) (vec_items old.rules.bodies) c.loop-k.k inv.lawful told;
     }

@@ -46,8 +46,8 @@ loop-preserved c =
     let count = inv.count in
     record {
       count = omega arith;
-      nodes = c.next_ways-ways.ensures.nodes ∙ inv.nodes;
-      rules = c.next_ways-ways.ensures.rules ∙ inv.rules;
+      nodes = c.next_ways-ways.ensures.kept.nodes ∙ inv.nodes;
+      rules = c.next_ways-ways.ensures.kept.rules ∙ inv.rules;
       filled = subst (Filled nodes bodies c.args.k) (sym c.in_ok-push.ensures.items) (filled_more nodes bodies c.args.k table w inv.filled next);
     }
 
