@@ -69,7 +69,7 @@ impl<'a, T: PartialEq + Copy> Book<'a, T> {
         Ok(place)
     }
 
-    // Enters x, so that it is in the book afterwards unless the book is full.
+    // Enters x, so that it is in the book afterwards, unless it is new and the book is full.
     pub fn put(&mut self, x: T) -> Result<(), Full>
         ensures { Fills T.eq self.old self.new (x ∷ []) (is_ok result) }
     {

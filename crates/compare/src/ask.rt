@@ -6,8 +6,10 @@ use crate::tell::{Counts, load_text, read_file, tell_refusal};
 use load::grammar::Grammar;
 use model::rows::{Item, Row};
 use model::verdict::Verdict;
+use records::read::MOST;
 use records::sheet::Sheet;
 use register::register::Register;
+use run::carry::{LENT, ROOM};
 use search::answer::Answer;
 use std::alloc::{AllocError, Global};
 use std::fs;
@@ -15,12 +17,6 @@ use std::io::Write;
 
 /// The most lines that a message is laid out in.
 const LINES: usize = 400;
-
-/// The most bytes that a sheet has.
-const ROOM: usize = 262144;
-
-/// One more than the rows or items that a call may be given.
-const LENT: usize = 513;
 
 /// Rows and items that calls are lent.
 #[derive(Drop)]
@@ -289,7 +285,7 @@ fn judge_on(
     text: &[u8],
 ) -> anyhow::Result<bool> {
     let mut register = Register::new(rt.alloc(), grammar, &relation)?;
-    let mut lent = Lent::new(rt.alloc(), 512)?;
+    let mut lent = Lent::new(rt.alloc(), MOST)?;
     match register.sheet(text, lent.rows.as_mut_slice(), lent.items.as_mut_slice()) {
         Ok(sheet) => {
             let left = name_of(grammar.tables.rules(), sheet.left);
@@ -335,7 +331,7 @@ fn member_on(
         return Ok(false);
     };
     let mut register = Register::new(rt.alloc(), grammar, &relation)?;
-    let mut lent = Lent::new(rt.alloc(), 512)?;
+    let mut lent = Lent::new(rt.alloc(), MOST)?;
     match register.member(
         number,
         text,

@@ -2,7 +2,9 @@
 use crate::ask::{ask, batch, judge, member};
 use crate::named::Named;
 use crate::runs::replay;
+use records::read::MOST;
 use std::env;
+use std::str::FromStr;
 
 /// How the program is used.
 const USAGE: &str = "usage: compare ask GRAMMAR LEFT RIGHT [exact|heads] [ROWS]
@@ -51,19 +53,14 @@ enum Command<'a> {
     Help,
 }
 
-/// The relation that a word names; exact where none is given.
-fn relation_of(word: Option<&str>) -> Option<Named> {
+/// What a word spells; the other value where none is given.
+fn parsed_or<T: FromStr + Drop>(word: Option<&str>, other: T) -> Option<T>
+where
+    T::Err: Drop,
+{
     match word {
         Some(word) => word.parse().ok(),
-        None => Some(Named::Exact),
-    }
-}
-
-/// A number of rows; 512 where none is given.
-fn rows_of(word: Option<&str>) -> Option<usize> {
-    match word {
-        Some(digits) => digits.parse().ok(),
-        None => Some(512),
+        None => Some(other),
     }
 }
 
@@ -78,8 +75,8 @@ impl<'a> Question<'a> {
         Some(Question {
             left: left?,
             right: right?,
-            relation: relation_of(relation)?,
-            rows: rows_of(rows)?,
+            relation: parsed_or(relation, Named::Exact)?,
+            rows: parsed_or(rows, MOST)?,
         })
     }
 }
@@ -108,13 +105,13 @@ fn read_command(words: &[String]) -> Option<Command<'_>> {
         "sheet" => Command::Sheet {
             grammar: word(words, 2)?,
             file: word(words, 3)?,
-            relation: relation_of(word(words, 4))?,
+            relation: parsed_or(word(words, 4), Named::Exact)?,
         },
         "member" => Command::Member {
             grammar: word(words, 2)?,
             rule: word(words, 3)?,
             file: word(words, 4)?,
-            relation: relation_of(word(words, 5))?,
+            relation: parsed_or(word(words, 5), Named::Exact)?,
         },
         "run" => Command::Run {
             grammar: word(words, 2)?,

@@ -1,4 +1,5 @@
-//! Laying out the message that items spell.
+//! Laying out the message that items spell. (The two functions that call one another take all that they need
+//! as parameters: one number falls at each call.)
 use model::rows::Item;
 use std::io;
 

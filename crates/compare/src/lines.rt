@@ -1,4 +1,4 @@
-//! Records as lines.
+//! Records as lines. (Crate `writing` has the same lines as bytes in lent memory, where no formatter serves.)
 use model::rows::{Item, Row};
 use std::fmt;
 

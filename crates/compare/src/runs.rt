@@ -4,6 +4,7 @@ use crate::named::Named;
 use crate::tell::{Counts, load_text, read_file, show_refusal};
 use load::grammar::Grammar;
 use model::verdict::Verdict;
+use records::read::counts;
 use run::call::{Entry, Reply};
 use run::carry::carry_out;
 use script::call::Call;
@@ -21,7 +22,8 @@ fn text_of(rt: &HostRuntime, call: Call<&str>) -> anyhow::Result<Vec<u8>> {
 }
 
 /// Reads the calls of a script and the text of each, up to a line that is no call; true where there is
-/// none such. (Two lists: the borrow checker does not cover a loop that borrows from pairs of both.)
+/// none such. (Two lists: the borrow checker does not cover a loop that borrows from pairs of both. A flag
+/// beside them: the calls before a wrong line are carried out all the same.)
 fn read_script<'a>(
     rt: &HostRuntime,
     script: &'a str,
@@ -29,13 +31,16 @@ fn read_script<'a>(
     texts: &mut Vec<Vec<u8>>,
 ) -> anyhow::Result<bool> {
     for line in script.lines() {
-        let Ok(read) = read_line(line) else {
-            eprintln!(rt; "this line is no call: {line}")?;
-            return Ok(false);
-        };
-        if let Some(call) = read {
-            texts.push(text_of(rt, call)?)?;
-            calls.push(call)?;
+        match read_line(line) {
+            Ok(None) => {}
+            Ok(Some(call)) => {
+                texts.push(text_of(rt, call)?)?;
+                calls.push(call)?;
+            }
+            Err(error) => {
+                eprintln!(rt; "{error}: {line}")?;
+                return Ok(false);
+            }
         }
     }
     Ok(true)
@@ -81,7 +86,7 @@ fn filled(reply: Reply) -> (usize, usize) {
 /// The records that a call left, a line each, and how many rows and items lie beyond them.
 fn show_records(rt: &HostRuntime, entry: &Entry) -> anyhow::Result<()> {
     let given = entry.rows.len();
-    if given == 0 || given > 512 || given != entry.items.len() {
+    if counts(given, entry.items.len()).is_err() {
         return Ok(());
     }
     let (rows, items) = filled(entry.reply);

@@ -5,7 +5,7 @@ use load::grammar::Grammar;
 use load::load::load;
 use std::fmt::Display;
 use std::fs;
-use text::fault::Fault;
+use text::fault::{Fault, Told};
 
 /// A file's bytes, or a message that names it.
 pub fn read_file(rt: &HostRuntime, path: &str) -> anyhow::Result<Vec<u8>> {
@@ -24,19 +24,23 @@ pub fn tell_refusal<F: Fault + Display>(
     what: &str,
     fault: F,
 ) -> anyhow::Result<()> {
-    let number = fault.number();
-    let line = fault.line();
-    let layer = fault.layer();
-    println!(rt; "{what} refused: fault {number} at line {line}, layer {layer}: {fault}")?;
+    let Told {
+        cause,
+        at_line,
+        found_by,
+    } = fault.told();
+    println!(rt; "{what} refused: fault {cause} at line {at_line}, layer {found_by}: {fault}")?;
     Ok(())
 }
 
 /// `refused number=N line=N layer=L`
 pub fn show_refusal<F: Fault>(rt: &HostRuntime, fault: F) -> anyhow::Result<()> {
-    let number = fault.number();
-    let line = fault.line();
-    let layer = fault.layer();
-    println!(rt; "refused number={number} line={line} layer={layer}")?;
+    let Told {
+        cause,
+        at_line,
+        found_by,
+    } = fault.told();
+    println!(rt; "refused number={cause} line={at_line} layer={found_by}")?;
     Ok(())
 }
 

@@ -31,7 +31,7 @@ fn leans_on(ledger: &Ledger, rules: usize, side: &Row) -> bool
 }
 
 impl Grounds<'_> {
-    /// Whether the inequality is one of the rows: only its chain is looked at.
+    /// Whether the inequality is one of the rows: only its chain is looked at, where there are chains.
     fn has_row(&self, side: &Row) -> bool
         ensures { result ≡ any (same_row side.now) self.now.rows.now }
     {

@@ -8,14 +8,14 @@ pub mod table;
 
 use model::verdict::Verdict;
 use std::alloc::{AllocError, Global};
-use table::Ledger;
+use table::{Ledger, RULES};
 
 impl Ledger {
     /// A table in which every pair is unsettled.
     pub fn new(heap: Global) -> Result<Ledger, AllocError>
         ensures { IfOk result (λ l. (a b : ℕ) → at l a b ≡ unsettled) }
     {
-        let pairs = vec![in heap; None; 1024]?;
+        let pairs = vec![in heap; None; RULES * RULES]?;
         Ok(Ledger { pairs })
     }
 
@@ -23,8 +23,8 @@ impl Ledger {
     pub fn look_up(&self, a: usize, b: usize) -> Option<Verdict>
         ensures { result ≡ at self.now a b }
     {
-        if a < 32 && b < 32 {
-            self.pairs[a * 32 + b]
+        if a < RULES && b < RULES {
+            self.pairs[a * RULES + b]
         } else {
             None
         }
@@ -34,8 +34,8 @@ impl Ledger {
     pub fn enter(&mut self, a: usize, b: usize, verdict: Option<Verdict>)
         ensures { (c d : ℕ) → at self.new c d ≡ enters (at self.old) a b verdict c d }
     {
-        if a < 32 && b < 32 {
-            self.pairs[a * 32 + b] = verdict;
+        if a < RULES && b < RULES {
+            self.pairs[a * RULES + b] = verdict;
         }
     }
 

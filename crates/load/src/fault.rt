@@ -22,7 +22,8 @@ pub enum GrammarFault {
     Size,
 }
 
-/// Why no grammar was loaded: a fault of the text, or want of memory.
+/// Why no grammar was loaded: a fault of the text, or want of memory. (Each layer has an error enum of its
+/// own, as its faults differ.)
 #[derive(Clone, Copy, Debug, PartialEq, Eq, Error)]
 pub enum LoadError {
     #[error(transparent)]

@@ -10,7 +10,7 @@ use states::error::BuildError;
 use std::alloc::Global;
 use tables_law::load_tables;
 
-/// The line number k; 0 where there is none.
+/// The line number k; 0 where there is none, which is the line of a fault that stands at no line.
 fn line_at(lines: &[usize], k: usize) -> usize
     ensures { result ≡ slice_index lines.now k }
 {

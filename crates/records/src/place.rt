@@ -5,7 +5,7 @@ ghost use Rattle.records.specs.Places.{element, item_fits};
 use model::names::{Kind, Name};
 use model::rows::Item;
 
-/// Whether t is an element name.
+/// Whether t is an element name. (Like a test of crate `tables`, by its own definition: each is a line.)
 fn is_element(names: &[Name], t: usize) -> bool
     ensures { result ≡ element names.now t }
 {

@@ -14,10 +14,10 @@ use text::line::whole;
 use text::reader::Reader;
 
 /// The most bytes that a text of records may have.
-const LIMIT: usize = 262144;
+pub const LIMIT: usize = 262144;
 
 /// The most rows or items that a call may be given.
-const MOST: usize = 512;
+pub const MOST: usize = 512;
 
 /// A text that is to be read: the stage that it begins at, and what its numbers are held against.
 #[derive(Clone, Copy)]
@@ -42,7 +42,7 @@ fn place(count: usize, step: Step, rows: &mut [Row], items: &mut [Item])
     }
 }
 
-/// Refuses a text that ends too early: line n is missing.
+/// Refuses a text that ends too early: the line of this number is missing.
 fn finish(progress: Progress, line: usize) -> Result<Progress, CallFault>
     ensures { result ≡ finished line progress progress.stage }
 {

@@ -41,7 +41,8 @@ pub enum Stage {
     Ended,
 }
 
-/// How far a text has been read. It has no `Sheet` in it: a hedge is read by it too, and has no pair.
+/// How far a text has been read. It has no `Sheet` in it: a hedge is read by it too, and has no pair. What
+/// no line has said yet is "excluded" and 0, and nobody reads it before that line.
 #[derive(Clone, Copy)]
 pub struct Progress {
     pub stage: Stage,
@@ -110,7 +111,8 @@ impl Progress {
     }
 }
 
-/// How many rules and states there are, and how many records have a place.
+/// How many rules and states there are, and how many records have a place. It holds no `Bounds`: those have
+/// names, which a line is judged by apart.
 #[derive(Clone, Copy)]
 pub struct Limits {
     pub rules: usize,

@@ -43,6 +43,8 @@ impl Register<'_, '_> {
         ensures settled { (c d : ℕ) → at self.new.ledger c d ≡ question_settles (at self.old.ledger) left right result c d }
         ensures basis { self.new.basis ≡ self.old.basis }
     {
+        // blanked here and in the other calls: a function over a result would say of rows and items twice
+        // what they are
         if let Err(fault) = self
             .basis
             .check_question(left, right, rows.len(), items.len())

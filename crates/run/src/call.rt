@@ -20,6 +20,7 @@ pub enum Reply {
     LookedUp(Option<Verdict>),
     Cleared,
     Refused(CallFault),
+    /// A sheet that was refused: its faults are more than those of a call.
     Declined(SheetFault),
 }
 

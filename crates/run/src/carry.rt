@@ -4,6 +4,7 @@ use load::grammar::Grammar;
 use model::relation::Relation;
 use model::rows::{Item, Row};
 use model::verdict::Verdict;
+use records::read::{LIMIT, MOST};
 use records::sheet::Sheet;
 use register::register::Register;
 use script::call::{Call, Lending};
@@ -12,10 +13,10 @@ use std::alloc::{AllocError, Global};
 
 /// One more than the rows or items that a call may be given: a call refuses each greater number as
 /// it refuses this one.
-const LENT: usize = 513;
+pub const LENT: usize = MOST + 1;
 
 /// The most bytes that a sheet has.
-const ROOM: usize = 262144;
+pub const ROOM: usize = LIMIT;
 
 /// A sheet that can be written: its values, and the entry that has its rows and items.
 #[derive(Clone, Copy)]

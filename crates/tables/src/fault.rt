@@ -7,7 +7,7 @@ use std::alloc::AllocError;
 use text::fault::{LineFault, TableFault};
 use thiserror::Error;
 
-/// A fault of the text, or want of memory.
+/// A fault of the text, or want of memory. (Each layer has an error enum of its own, as its faults differ.)
 #[derive(Clone, Copy, Debug, PartialEq, Eq, Error)]
 pub enum ReadError {
     #[error(transparent)]

@@ -9,7 +9,8 @@ use text::fault::LineFault;
 use text::field::Field;
 use text::line::Fields;
 
-/// A node by its first word, with the fields of its numbers.
+/// A node by its first word, with the fields of its numbers. It is no `Node`: the room for one more node is
+/// tested before the numbers have values.
 #[derive(Clone, Copy)]
 pub enum Shape<'a> {
     Nothing,

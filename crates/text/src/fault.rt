@@ -30,7 +30,7 @@ impl fmt::Display for Layer {
 }
 
 /// What a fault tells: the number of its cause, the line that it stands at, from 1 or 0 where it is
-/// no line's, and the layer that found it.
+/// no line's, and the layer that found it. The numbers are those that are printed and sent.
 #[derive(Clone, Copy, Debug, PartialEq, Eq)]
 pub struct Told {
     pub cause: u8,

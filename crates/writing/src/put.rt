@@ -98,7 +98,7 @@ impl Writer<'_> {
         }
     }
 
-    /// Puts the first line of a sheet.
+    /// Puts the first line of a sheet. (Whole lines, and not the verdict's `Display`: bytes without a formatter.)
     fn verdict(&mut self, verdict: Verdict)
         ensures { Wrote self.old (verdict_line verdict) self.new }
     {
