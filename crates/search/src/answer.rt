@@ -90,6 +90,7 @@ fn search(
 
 // The question whether each hedge of the state `left` is one of the state `right`, within the rows.
 // Where there are no rows or more than 512, or fewer items or marks than rows, none is met.
+// (Rows, items and marks stay three parameters, here and above: each is lent apart by the call.)
 pub fn question(
     setting: &Setting<'_>,
     left: usize,

@@ -6,6 +6,7 @@ ghost use Rattle.marking.specs.Marks.{flags};
 use model::rows::Row;
 
 // Blanks all records from a number on.
+// (A loop: `fill` requires of T a clone that cannot fail, which `Copy` does not say to the check.)
 pub(crate) fn blank_from<T: Copy>(records: &mut [T], from: usize, blank: T)
     requires { from ≤ length records.old }
     ensures { records.new ≡ take from records.old ++ replicate (length records.old - from) blank }
@@ -16,6 +17,7 @@ pub(crate) fn blank_from<T: Copy>(records: &mut [T], from: usize, blank: T)
 }
 
 // Moves the rows that are not marked to the front, in order, and gives their number.
+// (A count: a turn is at two places of one list, which no iterator lends at once.)
 pub(crate) fn keep_unmarked(rows: &mut [Row], marks: &[Option<usize>]) -> usize
     requires { length marks.now ≤ length rows.old }
     ensures number { result ≡ length (unmarked (take (length marks.now) rows.old) (flags marks.now (length marks.now))) }

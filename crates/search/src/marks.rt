@@ -12,6 +12,7 @@ use model::rows::Item;
 
 impl MetRows<'_> {
     // Gives each row the mark that it begins with: that of the empty hedge if it is inconsistent.
+    // (By number: rows and marks are lent apart, and there may be more marks than rows.)
     fn begin(&self, marks: &mut [Option<usize>])
         requires { length self.now.rows.now ≤ length marks.old }
         ensures { (i : ℕ) → i < length self.now.rows.now → mark_at marks.new i ≡ (if inconsistent (seen self.now.setting.now) (slice_index_or self.now.rows.now i blank_row) then Some 0 else None) }
@@ -23,6 +24,7 @@ impl MetRows<'_> {
 
     // Looks at row number i: if it is not marked and marked rows refute it, the next item becomes its
     // witness. Gives the number of items used.
+    // (Marks, items and the number used are lent apart, here and below: a struct would say each loan.)
     fn mark_row(
         &self,
         i: usize,
@@ -48,6 +50,7 @@ impl MetRows<'_> {
     }
 
     // Looks at all rows, the last first. Gives the number of items used.
+    // (By number: rows and marks are lent apart, there may be more marks, and the last row is first.)
     fn sweep(&self, marks: &mut [Option<usize>], items: &mut [Item], used: usize) -> usize
         requires { Ready (seen self.now.setting.now) self.now.rows.now marks.old items.old used }
         ensures { Swept (seen self.now.setting.now) self.now.rows.now marks.old marks.new items.new used result }

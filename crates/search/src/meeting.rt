@@ -18,6 +18,7 @@ pub struct Meeting {
 }
 
 // Enters the root in an empty book, takes the rows of the book in order, and enters the sides of each.
+// (A count, and no iterator over the rows: the book grows while its rows are taken.)
 fn walk(setting: &Setting<'_>, root: Row, book: &mut Book<'_, Row>) -> Result<(), Stop>
     requires empty { holds book.old ≡ [] }
     requires some { 0 < room book.old }

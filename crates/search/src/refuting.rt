@@ -34,6 +34,7 @@ impl MetRows<'_> {
 
     // The first item over all either-ors under the name t, for a row that is not wide. (A `for`, here
     // and below: with `find_map` the check leaves the result open, for its clause names no list.)
+    // (That the row is not wide is a `requires` and no type: it is known for one call alone.)
     fn of_name(&self, marks: &[Option<usize>], row: &Row, t: usize) -> Option<Item>
         requires narrow { wide_row (seen self.now.setting.now) row.now ≡ false }
         requires name { t < names_of self.now.setting.now.covers.now }

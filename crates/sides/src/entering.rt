@@ -30,6 +30,7 @@ impl From<Full> for Stop {
 
 impl Setting<'_> {
     // Enters the sides of all either-ors of a row, which is not wide, under the name t.
+    // (That the row is not wide is a `requires` and no type: it is known for one call alone.)
     fn enter_name(&self, row: &Row, t: usize, book: &mut Book<'_, Row>) -> Result<(), Full>
         requires narrow { wide_row (seen self.now) row.now ≡ false }
         requires name { t < names_of self.now.covers.now }
