@@ -6,7 +6,7 @@ ghost use Rattle.marking.specs.Marks.{flags};
 use model::rows::Row;
 
 // Blanks all records from a number on.
-// (A loop: `fill` requires of T a clone that cannot fail, which `Copy` does not say to the check.)
+// (A loop: `fill` asks for a clone that cannot fail; `Copy` does not say it, two `requires` would.)
 pub(crate) fn blank_from<T: Copy>(records: &mut [T], from: usize, blank: T)
     requires { from ≤ length records.old }
     ensures { records.new ≡ take from records.old ++ replicate (length records.old - from) blank }
