@@ -16,7 +16,8 @@ use sides::setting::Setting;
 
 // Whether the inclusion holds, with the number of rows met and of the records that show it; or why
 // the search stopped. (Four outcomes in one enum, and no Result: a stop is an answer like the others,
-// which its caller prints with the number of rows met.)
+// which its caller prints with the number of rows met. Callers match on all four, and each makes
+// something else of them.)
 #[derive(Clone, Copy)]
 pub enum Answer {
     Included { met: usize, records: usize },
