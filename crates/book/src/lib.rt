@@ -31,6 +31,17 @@ impl<'a, T: PartialEq + Copy> Book<'a, T> {
     ghost use Rattle.book.specs.Place.{numbered};
     ghost use Rattle.book.specs.Feeding.{holds, room, Fills};
 
+    // The book of the first `count` of the lent records, or of all where they are fewer, with room for as
+    // many as are lent.
+    pub fn of(records: &'a mut [T], count: usize) -> Book<'a, T>
+        ensures held { holds result ≡ take count records.old }
+        ensures room { room result ≡ length records.old }
+        ensures lent { result.records.ghost_name ≡ records.entry.ghost_name }
+    {
+        let count = count.min(records.len());
+        Book { records, count }
+    }
+
     // The book of no record, with room for as many as are lent.
     pub fn new(records: &'a mut [T]) -> Book<'a, T>
         ensures held { holds result ≡ [] }
