@@ -47,7 +47,7 @@ impl Grounds<'_> {
             for (i, row) in rows.iter().enumerate() {
                 let slot = slot(row);
                 links[i] = heads[slot];
-                heads[slot] = Some(i);
+                heads[slot] = Some(i as u16);
             }
         }
         Grounds {

@@ -11,7 +11,7 @@ use crate::place::Place;
 use model::machine::Derivative;
 use model::rows::Row;
 use sides::covers::Covers;
-use sides::either::either_or;
+use sides::either::{content_side, either_or};
 use sides::pairs::{Pair, Pairs};
 use sides::setting::Setting;
 
@@ -27,8 +27,9 @@ fn subsets(covers: &Covers, t: usize, label: usize, number: usize) -> usize
 fn is_unshown(grounds: &Grounds<'_>, derivative: Derivative, pairs: &[Pair], subset: usize) -> bool
     ensures { result ≡ unshown (shown_on grounds.now) (sides_of derivative pairs.now subset) }
 {
-    let sides = either_or(derivative, pairs, subset);
-    !grounds.shows(&sides.content) && !grounds.shows(&sides.rest)
+    // the rest side is made only where the content side is not shown
+    !grounds.shows(&content_side(derivative, pairs, subset))
+        && !grounds.shows(&either_or(derivative, pairs, subset).rest)
 }
 
 /// The place of the first gap of the row: names rising, derivatives of the left in order, subsets

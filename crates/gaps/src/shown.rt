@@ -32,6 +32,8 @@ fn leans_on(ledger: &Ledger, rules: usize, side: &Row) -> bool
 
 impl Grounds<'_> {
     /// Whether the inequality is one of the rows: only its chain is looked at, where there are chains.
+    /// (In line, as `shows`: it is asked for each either-or of a sheet.)
+    #[inline(always)]
     fn has_row(&self, side: &Row) -> bool
         ensures { result ≡ any (same_row side.now) self.now.rows.now }
     {
@@ -39,7 +41,8 @@ impl Grounds<'_> {
             return self.rows.contains(side);
         }
         let mut next = self.heads[slot(side)];
-        while let Some(at) = next {
+        while let Some(number) = next {
+            let at = number as usize;
             if *side == self.rows[at] {
                 return true;
             }
@@ -50,6 +53,7 @@ impl Grounds<'_> {
 
     /// Whether a side is shown.
     #[tactic(auto, unfolding(crate::specs::Shows::shown))]
+    #[inline(always)]
     pub fn shows(&self, side: &Row) -> bool
         ensures { result ≡ shown_on self.now side.now }
     {

@@ -11,11 +11,11 @@ loop-next-init c =
 pub loop-next-smaller : goal.loop-next-smaller
 loop-next-smaller c =
     let few : length c.args.self.now.rows.now ≤ 512 = omega arith in
-    link_falls c.args.side.now c.args.self.now.rows.now c.args.self.now.links c.loop-next.next c.in-Some.at c.in-Some.is
+    link_falls c.args.side.now c.args.self.now.rows.now c.args.self.now.links c.loop-next.next c.in-Some.number c.in-Some.is
     c.loop-next.invariant (c.args.self.now.linked few)
 
 pub loop-next-preserved : goal.loop-next-preserved
 loop-next-preserved c =
     let few : length c.args.self.now.rows.now ≤ 512 = omega arith in
-    chain_link c.args.side.now c.args.self.now.rows.now c.args.self.now.links c.loop-next.next c.in-Some.at c.in-Some.is
+    chain_link c.args.side.now c.args.self.now.rows.now c.args.self.now.links c.loop-next.next c.in-Some.number c.in-Some.is
     c.loop-next.invariant (c.args.self.now.linked few) (sym c.eq.ensures ∙ c.if-eq.false)
